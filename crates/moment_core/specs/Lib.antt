@@ -1,0 +1,5 @@
+pub mod Calendar
+pub mod Counter
+pub mod Line
+pub mod Sets
+pub mod TimeOfDay
