@@ -93,6 +93,10 @@ weeks_in_year first y = unsigned_abs (week_one first (y +ℤ pos 1) -ℤ week_on
 unfoldable pub month_number : ℤ → ℤ
 month_number day = year_of day *ℤ pos 12 +ℤ pos (month_of day - 1)
 
+-- the first day of the month with a number
+unfoldable pub month_first : ℤ → ℤ
+month_first n = day_number (floor_div n 12) (floor_mod n 12 + 1) 1
+
 -- weeks counted from the first one that begins on day 0 or later
 unfoldable pub week_number : ℕ → ℤ → ℤ
 week_number first day = floor_div (day -ℤ pos ((first + 3) % 7)) 7

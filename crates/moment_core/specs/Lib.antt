@@ -1,4 +1,5 @@
 pub mod Calendar
+pub mod CalendarLaws
 pub mod Counter
 pub mod Line
 pub mod Sets

@@ -4,13 +4,18 @@
 //! a whole number too: `2t` is the moment `t`, and `2t + 1` is the open second between `t` and `t + 1`.
 #![tactic(auto)]
 
+mod calendar;
 mod counter;
 mod line;
 mod week;
 
+pub use calendar::calendar_laws;
 pub use counter::Steps;
 pub use line::{
     Clock, Dir, G, HIGH, LOW, Moment, Pos, REACH, Stamp, Step, WIDTH, Window, floor, in_range,
     in_work, of,
 };
 pub use week::Weekday;
+
+#[cfg(test)]
+mod tests;
