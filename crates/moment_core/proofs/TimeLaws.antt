@@ -52,12 +52,12 @@ range-days : (first_day (neg_ℤ (pos 9900)) ≡ neg_ℤ (pos 4_335_428)) × (fi
 unfolding first_day calendar.days_of_years is_leap
 range-days = (refl, refl)
 
-working-days : (first_day (neg_ℤ (pos 9990)) ≡ neg_ℤ (pos 4_368_300)) × (first_day (pos 9991) ≡ pos 2_929_610)
+pub working-days : (first_day (neg_ℤ (pos 9990)) ≡ neg_ℤ (pos 4_368_300)) × (first_day (pos 9991) ≡ pos 2_929_610)
 unfolding first_day calendar.days_of_years is_leap
 working-days = (refl, refl)
 
 -- a day lies in years from one to another exactly if it lies from the first day of the one to the last of the other
-year_of-from : (day y : ℤ) → first_day y ≤ℤ day → y ≤ℤ year_of day
+pub year_of-from : (day y : ℤ) → first_day y ≤ℤ day → y ≤ℤ year_of day
 year_of-from day y low =
     by_lt_z (year_of day) y
     (λ lt. absurd (
@@ -65,7 +65,7 @@ year_of-from day y low =
     omega (arith, floor_arith, year_of-is day)))
     (λ ge. ge)
 
-year_of-below : (day y : ℤ) → day <ℤ first_day (y +ℤ pos 1) → year_of day ≤ℤ y
+pub year_of-below : (day y : ℤ) → day <ℤ first_day (y +ℤ pos 1) → year_of day ≤ℤ y
 year_of-below day y high =
     by_lt_z y (year_of day)
     (λ lt. absurd (

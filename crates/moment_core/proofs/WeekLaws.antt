@@ -118,7 +118,7 @@ week_of-bounds first day h =
     let weeks = weeks_in_year-is first (week_year_of first day) h in
     (omega (arith, floor_arith), omega (arith, floor_arith))
 
--- the number of the week is that of its fourth day among the fourth days of the year's weeks: what the code counts
+-- the number of the week is that of its fourth day among the fourth days of the year's weeks
 pub week_of-fourth : (first : ℕ) (day : ℤ) → IsInRange 1 7 first → week_of first day ≡ days_into_year (week_start first day +ℤ pos 3) / 7 + 1
 week_of-fourth first day h =
     let s = week_start first day in
@@ -129,12 +129,14 @@ week_of-fourth first day h =
     let one = week_one-is first y h in
     omega (arith, floor_arith)
 
-pub weeks_in_year-fourth : (first : ℕ) (day : ℤ) → IsInRange 1 7 first → weeks_in_year first (week_year_of first day) ≡ (year_len (week_year_of first day) - 1 - days_into_year (week_start first day +ℤ pos 3) % 7) / 7 + 1
+-- and the weeks of the year are those up to this one and those after it
+pub weeks_in_year-fourth : (first : ℕ) (day : ℤ) → IsInRange 1 7 first → weeks_in_year first (week_year_of first day) ≡ days_into_year (week_start first day +ℤ pos 3) / 7 + 1 + (year_len (week_year_of first day) - 1 - days_into_year (week_start first day +ℤ pos 3)) / 7
 weeks_in_year-fourth first day h =
     let s = week_start first day in
     let y = week_year_of first day in
     let same : week_year_of first day ≡ year_of (s +ℤ pos 3) = unfold week_year_of in refl in
     let into = rw (← same) at (days_into_year-is (s +ℤ pos 3)).0 in
+    let within = rw (← same) at (days_into_year-is (s +ℤ pos 3)).1 in
     let is = week_of-is first day h in
     let one = week_one-is first y h in
     let next_one = week_one-is first (y +ℤ pos 1) h in

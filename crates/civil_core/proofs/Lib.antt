@@ -1,0 +1,3 @@
+pub mod LibraryDates
+pub mod LibraryWeeks
+pub mod WorkingDays

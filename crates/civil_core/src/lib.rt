@@ -1,0 +1,15 @@
+//! The date, time of day and week of a moment, and the moment of a date and a time of day.
+//!
+//! The calendar is the proleptic Gregorian one, by the words and laws of `moment_core`; its dates are `jiff`'s.
+#![tactic(auto)]
+
+mod dates;
+mod from_fields;
+mod parts;
+mod weeks;
+
+pub use from_fields::moment;
+pub use parts::{CivilParts, fields};
+
+#[cfg(test)]
+mod tests;
