@@ -61,6 +61,8 @@ pub fn fields(t: Moment, first: Weekday) -> CivilParts
     ensures yeardays { IsInRange 1 result.year_len result.yearday }
     ensures month_lens { IsInRange 28 31 result.month_len }
     ensures year_lens { IsInRange 365 366 result.year_len }
+    ensures week_years { (neg_ℤ (pos 9990) ≤ℤ result.week_year)
+        × (result.week_year ≤ℤ pos 9990) }
     ensures week_numbers { IsInRange 1 result.weeks result.week }
     ensures week_counts { IsInRange 52 53 result.weeks }
 {

@@ -1,6 +1,6 @@
-ghost use Rattle.std.specs.Prelude.{◌≡◌, ◌+◌, ◌+ℤ◌, pos};
+ghost use Rattle.std.specs.Prelude.{◌≡◌, ◌+◌, ◌+ℤ◌, pos, neg_ℤ};
 ghost use Rattle.std.specs.Int.{IsInRange};
-ghost use Rattle.jiff.specs.Words.{epoch_day, monday_zero};
+ghost use Rattle.jiff.specs.Words.{epoch_day, monday_zero, IsBetween};
 ghost use Rattle.moment_core.specs.Calendar.{week_start, week_year_of, week_of, weeks_in_year};
 ghost use Rattle.civil_core.specs.Days.{IsWorkingDay};
 
@@ -40,6 +40,7 @@ pub(crate) fn week_parts(day: i64, first: Weekday) -> WeekParts
     ensures week { result.week ≡ week_of first day }
     ensures week_year { result.week_year ≡ week_year_of first day }
     ensures weeks { result.weeks ≡ weeks_in_year first (week_year_of first day) }
+    ensures week_years { IsBetween (neg_ℤ (pos 9990)) (pos 9990) result.week_year }
     ensures numbers { IsInRange 1 result.weeks result.week }
     ensures counts { IsInRange 52 53 result.weeks }
 {

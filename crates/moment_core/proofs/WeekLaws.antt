@@ -210,10 +210,3 @@ unfolding week_year_of
 week_year_of_mono first day later h le =
     let starts = week_start_mono first day later h le in
     year_of_mono (week_start first day +ℤ pos 3) (week_start first later +ℤ pos 3) (omega (arith, floor_arith))
-
--- how large the numbers of weeks are
-pub week_bounds : (first : ℕ) (day : ℤ) → IsInRange 1 7 first → (week_of first day ≤ 53) × (weeks_in_year first (week_year_of first day) ≤ 53)
-week_bounds first day h =
-    let weeks = weeks_in_year-is first (week_year_of first day) h in
-    let bounds = week_of-bounds first day h in
-    (omega arith, omega arith)
