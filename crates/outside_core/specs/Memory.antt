@@ -2,7 +2,8 @@ use Rattle.std.specs.Prelude.{ℕ, ◌+◌, ◌^◌, ◌==◌, ◌||◌, List, l
 use Rattle.std.specs.List.{list_any}
 use Rattle.std.specs.Option.{option_map_or}
 
--- which calls fail, by their numbers from 0; the number of the next call, unless it is 2 ^ 64 or more; and how many calls failed
+-- The numbers, from 0, of the calls that are to fail; the number of the next call, unless that is
+-- 2 ^ 64 or more; and the count of faults.
 pub record Plan : Type 0 where
   pub fails : List ℕ
   pub next : Option ℕ
@@ -21,27 +22,32 @@ abbrev pub number_after : Option ℕ → Option ℕ
 number_after None = None
 number_after (Some n) = if nat_lt (n + 1) (2 ^ 64) then Some (n + 1) else None
 
--- a source in memory: the bytes left, and which reads fail
+-- a plan after one more call, with this count of faults
+abbrev pub called : Plan → ℕ → Plan
+called plan faults = record { fails = plan.fails; next = number_after plan.next; faults = faults }
+
+-- what contracts see of a `MemSource`: the bytes left, and which reads fail
 pub record MemBytes : Type 0 where
   pub left : List ℕ
   pub plan : Plan
 
--- a sink in memory: the bytes taken, the room for more, and which writes fail
+-- what contracts see of a `MemSink`: the bytes taken, the room for more, and which writes fail
 pub record MemRoom : Type 0 where
   pub kept : List ℕ
   pub spare : ℕ
   pub plan : Plan
 
--- a write is listed, or its piece is longer than the room
+-- the write of a piece fails: it is listed, or the piece is longer than the room
 abbrev pub write_fails : MemRoom → List ℕ → Bool
 write_fails sink piece = is_due sink.plan || nat_lt sink.spare (length piece)
 
--- a sink that never fails: the bytes kept, the room for more, and whether a piece has not fitted yet
+-- what contracts see of a `SureSink`: the bytes kept, the room for more, and whether a piece was ever
+-- longer than the room
 pub record SureRoom : Type 0 where
   pub kept : List ℕ
   pub spare : ℕ
   pub full : Bool
 
--- the bytes kept, until a piece has not fitted
+-- the bytes kept, told until a piece is longer than the room
 abbrev pub told : SureRoom → Option (List ℕ)
 told sink = if sink.full then None else Some sink.kept

@@ -16,3 +16,6 @@ pub use memory::{MemSink, MemSource, SureSink, SureSource};
 pub use reads::{Got, Source};
 pub use standard::{StdSink, StdSource};
 pub use writes::{Put, Sink};
+
+#[cfg(test)]
+mod tests;

@@ -1,4 +1,4 @@
-ghost use Rattle.std.specs.Prelude.{◌≡◌, ◌+◌, ◌≤◌, ◌<◌, ◌++◌, ◌-◌, ◌||◌, ◌⊎◌, true, false, [], Some, None, length, take, drop, min, nat_lt, vec_len, vec_capacity, IfOk, if◌then◌else◌};
+ghost use Rattle.std.specs.Prelude.{◌≡◌, ◌+◌, ◌≤◌, ◌++◌, ◌-◌, false, [], length, take, min, vec_len, vec_capacity, IfOk};
 
 use crate::plan::FaultPlan;
 use crate::reads::{Got, Source};
@@ -100,7 +100,7 @@ impl MemSource {
 impl Source for MemSource {
     ghost use Rattle.std.specs.Prelude.{◌<◌, ◌≤◌, Some, length, min, if◌then◌else◌};
     ghost use Rattle.outside_core.specs.Outside.{Rose, Reads, IfReadFailed, got_of, count_after_read};
-    ghost use Rattle.outside_core.specs.Memory.{is_due, number_after};
+    ghost use Rattle.outside_core.specs.Memory.{is_due, called};
 
     ghost left = { λ s. Some s.left };
 
@@ -110,13 +110,14 @@ impl Source for MemSource {
         requires { 0 < length buf.old }
 
         // It fails exactly at the listed numbers, and else gives as many bytes as are left and have room.
-        ensures got { result ≡ (if is_due self.old.plan then Got.Failed else got_of (min (length self.old.left) (length buf.old))) }
+        ensures got { result ≡ (if is_due self.old.plan then Got.Failed
+            else got_of (min (length self.old.left) (length buf.old))) }
         ensures bytes { Reads (Some self.old.left) (Some self.new.left) buf.new result }
 
         // Each read is numbered, and each that fails is a fault.
         ensures failed { IfReadFailed result (Rose self.old.plan.faults self.new.plan.faults) }
         ensures counted { self.old.plan.faults ≤ self.new.plan.faults }
-        ensures plan { self.new.plan ≡ record { fails = self.old.plan.fails; next = number_after self.old.plan.next; faults = count_after_read self.old.plan.faults result } }
+        ensures plan { self.new.plan ≡ called self.old.plan (count_after_read self.old.plan.faults result) }
     {
         if self.plan.call() {
             self.plan.fail();
@@ -206,7 +207,7 @@ impl MemSink {
 impl Sink for MemSink {
     ghost use Rattle.std.specs.Prelude.{◌≤◌, ◌-◌, Some, length, if◌then◌else◌};
     ghost use Rattle.outside_core.specs.Outside.{Rose, Writes, IfWriteFailed, count_after_write};
-    ghost use Rattle.outside_core.specs.Memory.{write_fails, number_after};
+    ghost use Rattle.outside_core.specs.Memory.{write_fails, called};
 
     ghost taken = { λ s. Some s.kept };
 
@@ -216,12 +217,13 @@ impl Sink for MemSink {
         // It fails exactly at the listed numbers and where there is no room, and takes nothing then.
         ensures put { result ≡ (if write_fails self.old piece.now then Put.Failed 0 else Put.All) }
         ensures bytes { Writes (Some self.old.kept) (Some self.new.kept) piece.now result }
-        ensures spare { self.new.spare ≡ (if write_fails self.old piece.now then self.old.spare else self.old.spare - length piece.now) }
+        ensures spare { self.new.spare ≡ (if write_fails self.old piece.now then self.old.spare
+            else self.old.spare - length piece.now) }
 
         // Each write is numbered, and each that fails is a fault.
         ensures failed { IfWriteFailed result (Rose self.old.plan.faults self.new.plan.faults) }
         ensures counted { self.old.plan.faults ≤ self.new.plan.faults }
-        ensures plan { self.new.plan ≡ record { fails = self.old.plan.fails; next = number_after self.old.plan.next; faults = count_after_write self.old.plan.faults result } }
+        ensures plan { self.new.plan ≡ called self.old.plan (count_after_write self.old.plan.faults result) }
     {
         if self.plan.call() || self.store.spare < piece.len() {
             self.plan.fail();
@@ -291,8 +293,10 @@ impl Sink for SureSink {
 
         // It is full from the first piece on that is longer than the room, and keeps nothing then.
         ensures full { self.new.full ≡ (self.old.full || nat_lt self.old.spare (length piece.now)) }
-        ensures kept { self.new.kept ≡ (if self.new.full then self.old.kept else self.old.kept ++ piece.now) }
-        ensures spare { self.new.spare ≡ (if self.new.full then self.old.spare else self.old.spare - length piece.now) }
+        ensures kept { self.new.kept ≡ (if self.new.full then self.old.kept
+            else self.old.kept ++ piece.now) }
+        ensures spare { self.new.spare ≡ (if self.new.full then self.old.spare
+            else self.old.spare - length piece.now) }
     {
         if self.store.spare < piece.len() {
             self.full = true;

@@ -19,7 +19,7 @@ impl Model for FaultPlan {
 }
 
 impl FaultPlan {
-    ghost use Rattle.outside_core.specs.Memory.{is_due, number_after, planned};
+    ghost use Rattle.outside_core.specs.Memory.{is_due, called, planned};
     ghost use Rattle.outside_core.specs.Outside.{raised};
 
     pub(crate) fn new(fails: Vec<u64>) -> FaultPlan
@@ -35,7 +35,7 @@ impl FaultPlan {
     /// Counts a call, and says whether it is to fail.
     pub(crate) fn call(&mut self) -> bool
         ensures due { result ≡ is_due self.old }
-        ensures counted { self.new ≡ record self.old { next = number_after self.old.next } }
+        ensures counted { self.new ≡ called self.old self.old.faults }
     {
         let Some(number) = self.next else {
             return false;

@@ -11,13 +11,13 @@ pub enum Got {
 
 /// Where bytes come from.
 pub trait Source {
-    ghost use Rattle.std.specs.Prelude.{ℕ, List, Option, ◌<◌, ◌≤◌, ◌-◌, ◌^◌, length};
+    ghost use Rattle.std.specs.Prelude.{ℕ, List, Option, ◌<◌, ◌≤◌, length};
     ghost use Rattle.outside_core.specs.Outside.{Rose, Reads, IfReadFailed};
 
     /// The bytes left, where the source tells them.
     ghost left: { Self → Option (List ℕ) };
 
-    /// How many faults there were, up to 2^64 - 1.
+    /// How many faults there were. A count at 2^64 - 1, the last value, counts as risen.
     ghost faults: { Self → ℕ };
 
     /// Moves the next bytes to the front of the buffer: some, unless none is left or the read fails.

@@ -39,7 +39,8 @@ impl<R: Read> Source for StdSource<R> {
         ensures bytes { Reads None None buf.new result }
 
         // It hands on what the reader gives.
-        ensures reader { Reads (R.remaining (source_reader self.old)) (R.remaining (source_reader self.new)) buf.new result }
+        ensures reader { Reads (R.remaining (source_reader self.old))
+            (R.remaining (source_reader self.new)) buf.new result }
 
         // Each read that fails is a fault.
         ensures failed { IfReadFailed result (Rose (source_faults self.old) (source_faults self.new)) }
@@ -60,7 +61,8 @@ impl<R: Read> Source for StdSource<R> {
 /// One read, tried again while it is interrupted: how many bytes it gave, or None where it failed.
 fn read_some<R: Read>(reader: &mut R, buf: &mut [u8]) -> Option<usize>
     requires { 0 < length buf.old }
-    ensures some { IfSome result (λ n. (n ≤ length buf.new) × Consumes (R.remaining reader.old) (R.remaining reader.new) (take n buf.new)) }
+    ensures some { IfSome result (λ n. (n ≤ length buf.new)
+        × Consumes (R.remaining reader.old) (R.remaining reader.new) (take n buf.new)) }
     ensures end { result ≡ Some 0 → IsAtEnd (R.remaining reader.old) }
     ensures none { IfNone result (Keeps (R.remaining reader.old) (R.remaining reader.new)) }
 {
@@ -108,7 +110,8 @@ impl<W: Write> Sink for StdSink<W> {
         ensures bytes { Writes None None piece.now result }
 
         // It hands the piece on to the writer.
-        ensures writer { HandsOn (W.contents (sink_writer self.old)) (W.contents (sink_writer self.new)) piece.now result }
+        ensures writer { HandsOn (W.contents (sink_writer self.old))
+            (W.contents (sink_writer self.new)) piece.now result }
 
         // Each write that fails is a fault.
         ensures failed { IfWriteFailed result (Rose (sink_faults self.old) (sink_faults self.new)) }
@@ -131,7 +134,8 @@ impl<W: Write> Sink for StdSink<W> {
 /// took nothing.
 fn write_some<W: Write>(writer: &mut W, piece: &[u8]) -> Option<usize>
     requires { 0 < length piece.now }
-    ensures some { IfSome result (λ n. (0 < n) × (n ≤ length piece.now) × Appends (W.contents writer.old) (W.contents writer.new) (take n piece.now)) }
+    ensures some { IfSome result (λ n. (0 < n) × (n ≤ length piece.now)
+        × Appends (W.contents writer.old) (W.contents writer.new) (take n piece.now)) }
     ensures none { IfNone result (Keeps (W.contents writer.old) (W.contents writer.new)) }
 {
     'tries: for _ in 0..u64::MAX {

@@ -15,7 +15,7 @@ pub trait Sink {
     /// The bytes taken, where the sink tells them.
     ghost taken: { Self → Option (List ℕ) };
 
-    /// How many faults there were, up to 2^64 - 1.
+    /// How many faults there were. A count at 2^64 - 1, the last value, counts as risen.
     ghost faults: { Self → ℕ };
 
     /// Takes the piece, or its first bytes where the write fails.

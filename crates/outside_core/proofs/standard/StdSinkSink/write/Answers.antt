@@ -21,5 +21,5 @@ pub loop-done-preserved : goal.loop-done-preserved
 loop-done-preserved g c = record {
   within = grind (arith, common_steps, c.in-Some.ensures.some.1);
   taken = Appends-more _ _ _ c.args.piece.now c.loop-done.done c.in-Some.n c.loop-done.invariant.taken c.in-Some.ensures.some.2;
-  no_fault = c.loop-done.invariant.no_fault
+  no_fault = c.loop-done.invariant.no_fault;
 }

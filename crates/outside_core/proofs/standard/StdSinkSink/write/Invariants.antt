@@ -6,7 +6,7 @@ abbrev pub invariant-loop-done : goal.invariant-loop-done
 invariant-loop-done g l = record {
   within : l.done ≤ length l.piece;
   taken : Appends (g.W.Write.contents l.fn.self.writer) (g.W.Write.contents l.self.writer) (take l.done l.piece);
-  no_fault : l.self.faults ≡ l.fn.self.faults
+  no_fault : l.self.faults ≡ l.fn.self.faults;
 }
 
 abbrev pub decreases-loop-done : goal.decreases-loop-done
