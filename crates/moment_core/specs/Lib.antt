@@ -3,4 +3,5 @@ pub mod CalendarLaws
 pub mod Counter
 pub mod Line
 pub mod Sets
+pub mod Steps
 pub mod TimeOfDay
