@@ -1,0 +1,60 @@
+-- Runs and their bounds.
+use Rattle.std.proofs.Common.{◌≡◌, ◌↔◌, refl, sym, ◌∙◌, arith, ℤ, pos, negsuc, ◌+ℤ◌, ◌≤ℤ◌, true, false, ◌&&◌, int_le, if◌then◌else◌}
+use Rattle.std.proofs.lemmas.Bool.{and_parts, and_from}
+use Rattle.std.proofs.lemmas.Int.{ints}
+use Rattle.std.specs.Ordering.{int_eq}
+use Rattle.moment_core.specs.Line.{moment_of, position_of}
+use Rattle.span_core.specs.Bounds.{ends_after, high_bound, is_moment, lies_between, low_bound, reaches}
+use Rattle.span_core.specs.declared.bounds.Bound.TheVariants.{Closed, Open}
+
+-- a position is the moment at or before it, or the open second after that one
+pub halves : (p : ℤ) → (position_of (moment_of p) ≤ℤ p) × (p ≤ℤ (position_of (moment_of p) +ℤ pos 1))
+halves (pos n) = (omega (arith, ints), omega (arith, ints))
+halves (negsuc n) = (omega (arith, ints), omega (arith, ints))
+
+same_from_int_eq : (x y : ℤ) → int_eq x y ≡ true → x ≡ y
+same_from_int_eq x y e = grind (arith, ints)
+
+apart_from_int_eq : (x y : ℤ) → int_eq x y ≡ false → x ≤ℤ y → (x +ℤ pos 1) ≤ℤ y
+apart_from_int_eq x y e h = grind (arith, ints)
+
+pub at_moment : (p : ℤ) → is_moment p ≡ true → position_of (moment_of p) ≡ p
+at_moment p e = same_from_int_eq (position_of (moment_of p)) p e
+
+pub at_open_second : (p : ℤ) → is_moment p ≡ false → position_of (moment_of p) +ℤ pos 1 ≡ p
+at_open_second p e =
+    let near = halves p in
+    let past : (position_of (moment_of p) +ℤ pos 1) ≤ℤ p = apart_from_int_eq (position_of (moment_of p)) p e near.0 in
+    omega (arith, ints)
+
+-- a run's lower bound reaches the positions from its first one on, and its upper bound ends after the last one
+pub reaches-low_bound : (first p : ℤ) → reaches (low_bound first) p ≡ int_le first p
+reaches-low_bound first p = elim (is_moment first) as (λ b. is_moment first ≡ b → reaches (if b then Closed (record { 0 = moment_of first }) else Open (record { 0 = moment_of first })) p ≡ int_le first p) [
+  | true ↦ λ e. rw (at_moment first e) refl
+  | false ↦ λ e. rw (at_open_second first e) refl
+] refl
+
+int_le-below : (p q r : ℤ) → q +ℤ pos 1 ≡ r → int_le (p +ℤ pos 1) r ≡ int_le p q
+int_le-below p q r e = grind (arith, ints)
+
+pub ends_after-high_bound : (last p : ℤ) → ends_after (high_bound last) p ≡ int_le p last
+ends_after-high_bound last p = elim (is_moment last) as (λ b. is_moment last ≡ b → ends_after (if b then Closed (record { 0 = moment_of last }) else Open (record { 0 = moment_of last +ℤ pos 1 })) p ≡ int_le p last) [
+  | true ↦ λ e. rw (at_moment last e) refl
+  | false ↦ λ e.
+      let whole : position_of (moment_of last) +ℤ pos 1 ≡ last = at_open_second last e in
+      int_le-below p last (position_of (moment_of last +ℤ pos 1)) (omega (arith, ints))
+] refl
+
+pub lies_between-run : (first last p : ℤ) → lies_between (low_bound first) (high_bound last) p ≡ (int_le first p && int_le p last)
+lies_between-run first last p = rw (reaches-low_bound first p, ends_after-high_bound last p) refl
+
+le-true : (p q : ℤ) → (int_le p q ≡ true) ↔ (p ≤ℤ q)
+le-true p q = (λ e. grind (arith, ints), λ h. grind (arith, ints))
+
+pub in_run : (first last p : ℤ) → (lies_between (low_bound first) (high_bound last) p ≡ true) ↔ ((first ≤ℤ p) × (p ≤ℤ last))
+in_run first last p = (
+  λ e.
+      let parts = and_parts (int_le first p) (int_le p last) (sym (lies_between-run first last p) ∙ e) in
+      ((le-true first p).0 parts.0, (le-true p last).0 parts.1),
+  λ h. lies_between-run first last p ∙ and_from (int_le first p) (int_le p last) ((le-true first p).1 h.0) ((le-true p last).1 h.1),
+)
