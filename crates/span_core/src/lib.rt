@@ -5,6 +5,8 @@ mod answers;
 mod bounds;
 mod laws;
 mod stretch;
+#[cfg(test)]
+mod tests;
 
 pub use answers::{Answer, Audited, Extreme, Item, Near, Stop, Test, Token, Total, Vacant, Why};
 pub use bounds::{Bound, Run, run_of};

@@ -1,0 +1,8 @@
+use Rattle.frame_core.proofs.Multiples.{greatest_common-IsGcd, least_common-IsLeastCommon}
+use Rattle.frame_core.proofs.laws.period_laws.Goals as goal
+
+pub returns-clause-divisor : goal.returns-clause-divisor
+returns-clause-divisor c a b = greatest_common-IsGcd a b
+
+pub returns-clause-multiple : goal.returns-clause-multiple
+returns-clause-multiple c a b some other = least_common-IsLeastCommon a b some other

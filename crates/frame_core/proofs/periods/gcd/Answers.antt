@@ -1,0 +1,10 @@
+use Rattle.std.proofs.Common.{arith}
+use Rattle.std.proofs.lemmas.Nat.Gcd.{IsGcd-from_mod, IsGcd-from_zero}
+use Rattle.frame_core.proofs.Multiples.{greatest_common-is}
+use Rattle.frame_core.proofs.periods.gcd.Goals as goal
+
+pub loop-y-preserved : goal.loop-y-preserved
+loop-y-preserved c g h = c.loop-y.invariant g (IsGcd-from_mod _ _ g h)
+
+pub returns : goal.returns
+returns c = greatest_common-is c.args.a c.args.b _ (c.loop-y.invariant _ (IsGcd-from_zero _ _ (omega arith)))

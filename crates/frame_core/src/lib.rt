@@ -1,0 +1,12 @@
+//! Frames: from where on a set of positions repeats, both ways, and after how long.
+#![tactic(auto)]
+
+mod frames;
+mod laws;
+mod periods;
+#[cfg(test)]
+mod tests;
+
+pub use frames::{Frame, join, window};
+pub use laws::{frame_laws, period_laws};
+pub use periods::rule_period;
