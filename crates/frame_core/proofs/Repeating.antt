@@ -16,15 +16,8 @@ use Rattle.frame_core.specs.Frames.{IsPeriod, Repeats, framed, in_calendar, join
 use Rattle.frame_core.specs.Periods.{in_width, least_common}
 use Rattle.frame_core.specs.declared.frames.Frame.{Frame}
 use Rattle.frame_core.proofs.Multiples.{least_common-IsLeastCommon}
-
--- so many steps and then so many more
-pub ahead-ahead : (dir : Dir) (p : ℤ) (m n : ℕ) → ahead dir (ahead dir p m) n ≡ ahead dir p (m + n)
-ahead-ahead Fore p m n = omega (arith, ints)
-ahead-ahead Back p m n = omega (arith, ints)
-
-pub ahead-zero : (dir : Dir) (p : ℤ) → ahead dir p 0 ≡ p
-ahead-zero Fore p = omega (arith, ints)
-ahead-zero Back p = omega (arith, ints)
+use Rattle.span_core.proofs.Comparing.{int_le-true}
+use Rattle.span_core.proofs.Searches.{ahead-ahead, seen-zero}
 
 -- p lies where a set with the frame repeats, in the direction
 abbrev pub IsFrom : Frame → Dir → ℤ → Type 0
@@ -47,7 +40,7 @@ Repeats-from set frame again = record { upwards = λ p h. again Fore p h; downwa
 pub Repeats-times : (set : ℤ → Bool) (frame : Frame) → Repeats set frame → (dir : Dir) (k : ℕ) (p : ℤ) → IsFrom frame dir p → set (ahead dir p (k * (2 * frame.period))) ≡ set p
 Repeats-times set frame r dir zero p h =
     let none : 0 * (2 * frame.period) ≡ 0 = omega arith in
-    ap (λ m. set (ahead dir p m)) none ∙ ap set (ahead-zero dir p)
+    ap (λ m. set (ahead dir p m)) none ∙ seen-zero set dir p
 Repeats-times set frame r dir (suc k) p h =
     let n = 2 * frame.period in
     let e : suc k * n ≡ k * n + n = suc-mul k n in
@@ -142,9 +135,9 @@ up_to-ahead : (dir : Dir) (p : ℤ) (k n : ℕ) → k ≤ n → IsUpTo dir (ahea
 up_to-ahead Fore p k n h = omega (arith, ints)
 up_to-ahead Back p k n h = omega (arith, ints)
 
-later : (frame : Frame) (dir : Dir) (p : ℤ) (m k : ℕ) → m ≤ k → IsFrom frame dir (ahead dir p m) → IsFrom frame dir (ahead dir p k)
-later frame Fore p m k h x = omega (arith, ints)
-later frame Back p m k h x = omega (arith, ints)
+IsFrom-later : (frame : Frame) (dir : Dir) (p : ℤ) (m k : ℕ) → m ≤ k → IsFrom frame dir (ahead dir p m) → IsFrom frame dir (ahead dir p k)
+IsFrom-later frame Fore p m k h x = omega (arith, ints)
+IsFrom-later frame Back p m k h x = omega (arith, ints)
 
 pub keeps : (set : ℤ → Bool) (frame : Frame) (dir : Dir) (p : ℤ) → 0 < frame.period → Repeats set frame → ((k : ℕ) → IsUpTo dir (repeats_by frame dir p) (ahead dir p k) → seen set dir p k ≡ set p) → (k : ℕ) → seen set dir p k ≡ set p
 keeps set frame dir p positive r near k =
@@ -154,19 +147,15 @@ keeps set frame dir p positive r near k =
     let there : IsFrom frame dir (ahead dir p from) = way.2 in
     let begins : repeats_by frame dir p ≡ ahead dir p (from + n) =
     ap (λ q. ahead dir q n) way.1 ∙ ahead-ahead dir p from n in
-    let start : seen set dir p 0 ≡ set p = ap set (ahead-zero dir p) in
+    let start : seen set dir p 0 ≡ set p = seen-zero set dir p in
     let again = λ (j : ℕ) (h : from ≤ j).
-    let e : from + (j - from) ≡ j = omega arith in
-    let past : IsFrom frame dir (ahead dir p j) = later frame dir p from j h there in
+    let past : IsFrom frame dir (ahead dir p j) = IsFrom-later frame dir p from j h there in
     ap set (sym (ahead-ahead dir p j n)) ∙ Repeats-again set frame r dir (ahead dir p j) past in
     let same = λ (j : ℕ) (h : j ≤ from + n). near j (rw begins (up_to-ahead dir p j (from + n) h)) ∙ sym start in
     keeps_within (seen set dir p) from n (omega arith) again same k k (omega arith) ∙ start
 
 abbrev window_at : ℤ → ℤ → Window
 window_at a b = record { lo = record { 0 = a }; hi = record { 0 = b } }
-
-int_le-true : (a b : ℤ) → int_le a b ≡ true → a ≤ℤ b
-int_le-true a b e = grind (arith, ints)
 
 -- the window from a to b lies in the calendar range, where it is there
 pub in_calendar-is : (a b : ℤ) (w : Window) → in_calendar a b ≡ Some w → (position_of LOW ≤ℤ a) × (b ≤ℤ position_of HIGH)

@@ -5,6 +5,12 @@ ghost use Rattle.frame_core.specs.Frames.{IsPeriod, Repeats, in_calendar, join_o
 use crate::periods::least_common;
 use moment_core::{Dir, HIGH, LOW, Pos, Window};
 
+/// The first position of the calendar range.
+const FIRST: i64 = 2 * LOW;
+
+/// The last position of the calendar range.
+const LAST: i64 = 2 * HIGH;
+
 /// From where on a set of positions repeats: from `hi` upwards and from `lo` downwards, after `period` seconds.
 ///
 /// A period is from 1 second to `WIDTH`; the functions ask for it.
@@ -44,11 +50,6 @@ pub fn window(f: Frame, p: Pos, dir: Dir) -> Option<Window>
         Dir::Back => window_up_to(lesser(p, f.lo), f.period),
     }
 }
-
-/// The first and the last position of the calendar range.
-const FIRST: i64 = 2 * LOW;
-
-const LAST: i64 = 2 * HIGH;
 
 /// The window of one period from `lo` upwards, or None where it leaves the calendar range.
 fn window_from(lo: Pos, period: u64) -> Option<Window>

@@ -1,3 +1,4 @@
+pub mod Comparing
 pub mod Runs
 pub mod Searches
 pub mod Stretches

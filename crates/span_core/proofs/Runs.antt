@@ -6,6 +6,7 @@ use Rattle.std.specs.Ordering.{int_eq}
 use Rattle.moment_core.specs.Line.{moment_of, position_of}
 use Rattle.span_core.specs.Bounds.{ends_after, high_bound, is_moment, lies_between, low_bound, reaches}
 use Rattle.span_core.specs.declared.bounds.Bound.TheVariants.{Closed, Open}
+use Rattle.span_core.proofs.Comparing.{int_le-below, int_le-true, le-int_le}
 
 -- a position is the moment at or before it, or the open second after that one
 pub halves : (p : ℤ) → (position_of (moment_of p) ≤ℤ p) × (p ≤ℤ (position_of (moment_of p) +ℤ pos 1))
@@ -34,9 +35,6 @@ reaches-low_bound first p = elim (is_moment first) as (λ b. is_moment first ≡
   | false ↦ λ e. rw (at_open_second first e) refl
 ] refl
 
-int_le-below : (p q r : ℤ) → q +ℤ pos 1 ≡ r → int_le (p +ℤ pos 1) r ≡ int_le p q
-int_le-below p q r e = grind (arith, ints)
-
 pub ends_after-high_bound : (last p : ℤ) → ends_after (high_bound last) p ≡ int_le p last
 ends_after-high_bound last p = elim (is_moment last) as (λ b. is_moment last ≡ b → ends_after (if b then Closed (record { 0 = moment_of last }) else Open (record { 0 = moment_of last +ℤ pos 1 })) p ≡ int_le p last) [
   | true ↦ λ e. rw (at_moment last e) refl
@@ -48,13 +46,10 @@ ends_after-high_bound last p = elim (is_moment last) as (λ b. is_moment last �
 pub lies_between-run : (first last p : ℤ) → lies_between (low_bound first) (high_bound last) p ≡ (int_le first p && int_le p last)
 lies_between-run first last p = rw (reaches-low_bound first p, ends_after-high_bound last p) refl
 
-le-true : (p q : ℤ) → (int_le p q ≡ true) ↔ (p ≤ℤ q)
-le-true p q = (λ e. grind (arith, ints), λ h. grind (arith, ints))
-
 pub in_run : (first last p : ℤ) → (lies_between (low_bound first) (high_bound last) p ≡ true) ↔ ((first ≤ℤ p) × (p ≤ℤ last))
 in_run first last p = (
   λ e.
       let parts = and_parts (int_le first p) (int_le p last) (sym (lies_between-run first last p) ∙ e) in
-      ((le-true first p).0 parts.0, (le-true p last).0 parts.1),
-  λ h. lies_between-run first last p ∙ and_from (int_le first p) (int_le p last) ((le-true first p).1 h.0) ((le-true p last).1 h.1),
+      (int_le-true first p parts.0, int_le-true p last parts.1),
+  λ h. lies_between-run first last p ∙ and_from (int_le first p) (int_le p last) (le-int_le first p h.0) (le-int_le p last h.1),
 )

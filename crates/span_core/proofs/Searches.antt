@@ -1,5 +1,5 @@
 -- Every search has an answer, and one alone.
-use Rattle.std.proofs.Common.{◌≡◌, ◌⊎◌, inl, inr, ap, refl, sym, subst, ◌∙◌, arith, ℕ, zero, suc, ◌≤◌, ℤ, ◌-ℤ◌, unsigned_abs, Bool, true, false, not, Option, Some, None}
+use Rattle.std.proofs.Common.{◌≡◌, ◌⊎◌, inl, inr, ap, refl, sym, subst, ◌∙◌, arith, ℕ, zero, suc, ◌+◌, ◌≤◌, ℤ, ◌-ℤ◌, unsigned_abs, Bool, true, false, not, Option, Some, None}
 use Rattle.std.proofs.lemmas.Bool.{cases_order}
 use Rattle.std.proofs.lemmas.Int.{ints}
 use Rattle.moment_core.specs.Line.{IsCalendarPosition, position_of}
@@ -13,9 +13,14 @@ use Rattle.span_core.specs.Answers.{IsFound}
 use Rattle.span_core.specs.declared.answers.Answer.{Answer}
 use Rattle.span_core.specs.declared.answers.Answer.TheVariants.{At, None as Never, Edge, Budget}
 
+-- no step, and so many steps and then so many more
 pub ahead-zero : (dir : Dir) (p : ℤ) → ahead dir p 0 ≡ p
 ahead-zero Fore p = omega (arith, ints)
 ahead-zero Back p = omega (arith, ints)
+
+pub ahead-ahead : (dir : Dir) (p : ℤ) (m n : ℕ) → ahead dir (ahead dir p m) n ≡ ahead dir p (m + n)
+ahead-ahead Fore p m n = omega (arith, ints)
+ahead-ahead Back p m n = omega (arith, ints)
 
 pub seen-zero : (set : ℤ → Bool) (dir : Dir) (p : ℤ) → seen set dir p 0 ≡ set p
 seen-zero set dir p = ap set (ahead-zero dir p)

@@ -9,6 +9,7 @@ use Rattle.span_core.specs.Bounds.{IsGiven, IsOneStretch, IsSpan, ends_after, fi
 use Rattle.span_core.specs.declared.bounds.Bound.{Bound}
 use Rattle.span_core.specs.declared.bounds.Bound.TheVariants.{Closed, Open, Inf, Edge}
 use Rattle.span_core.specs.declared.stretch.Empty.{Empty}
+use Rattle.span_core.proofs.Comparing.{int_le-below, int_le-false, int_le-true, le-int_le, lt-int_le}
 
 -- where there is a first position, the positions from it on are those that a low bound reaches, else all are
 pub reaches-from : (low : Bound) (first : Pos) → first_from low ≡ Some first → (p : ℤ) → reaches low p ≡ int_le first.0 p
@@ -23,12 +24,11 @@ reaches-all (Open t) e p = absurd cc
 reaches-all Inf e p = refl
 reaches-all Edge e p = refl
 
-int_le-shifted : (p q r : ℤ) → q ≡ r -ℤ pos 1 → int_le (p +ℤ pos 1) r ≡ int_le p q
-int_le-shifted p q r e = grind (arith, ints)
-
 pub ends_after-to : (high : Bound) (last : Pos) → last_to high ≡ Some last → (p : ℤ) → ends_after high p ≡ int_le p last.0
 ends_after-to (Closed t) last e p = cc
-ends_after-to (Open t) last e p = int_le-shifted p last.0 (position_of t.0) cc
+ends_after-to (Open t) last e p =
+    let before : position_of t.0 -ℤ pos 1 ≡ last.0 = cc in
+    int_le-below p last.0 (position_of t.0) (omega (arith, ints))
 ends_after-to Inf last e p = absurd cc
 ends_after-to Edge last e p = absurd cc
 
@@ -37,12 +37,6 @@ ends_after-all (Closed t) e p = absurd cc
 ends_after-all (Open t) e p = absurd cc
 ends_after-all Inf e p = refl
 ends_after-all Edge e p = refl
-
-int_le-true : (p q : ℤ) → int_le p q ≡ true → p ≤ℤ q
-int_le-true p q e = grind (arith, ints)
-
-le-int_le : (p q : ℤ) → p ≤ℤ q → int_le p q ≡ true
-le-int_le p q h = grind (arith, ints)
 
 -- a later position is reached too, and an earlier one is not past the end either
 pub reaches-later : (low : Bound) (p q : ℤ) → p ≤ℤ q → reaches low p ≡ true → reaches low q ≡ true
@@ -57,7 +51,7 @@ ends_after-earlier (Open t) p q h e = grind (arith, ints)
 ends_after-earlier Inf p q h e = refl
 ends_after-earlier Edge p q h e = refl
 
--- a span: its bounds hold the position between them that it holds
+-- given bounds whose positions are in order have one of them between them
 pub IsSpan-first-last : (low high : Bound) → IsGiven low → IsGiven high → (first last : Pos) → first_from low ≡ Some first → last_to high ≡ Some last → first.0 ≤ℤ last.0 → IsSpan low high
 IsSpan-first-last low high g h first last e f ordered = record {
   low_given = g;
@@ -104,12 +98,6 @@ IsSpan-to low high g h e = elim (last_to high) as (λ o. last_to high ≡ o → 
 abbrev pub IsGap : Bound → Bound → Type 0
 IsGap high low = (p : ℤ) × (ends_after high p ≡ false) × (reaches low p ≡ false)
 
-not_later : (p q : ℤ) → int_le p q ≡ false → q <ℤ p
-not_later p q e = grind (arith, ints)
-
-lt-int_le : (p q : ℤ) → q <ℤ p → int_le p q ≡ false
-lt-int_le p q h = grind (arith, ints)
-
 pub IsGap-apart : (high low : Bound) (last first : Pos) → last_to high ≡ Some last → first_from low ≡ Some first → (last.0 +ℤ pos 1) <ℤ first.0 → IsGap high low
 IsGap-apart high low last first e f h = (
   last.0 +ℤ pos 1,
@@ -120,8 +108,8 @@ IsGap-apart high low last first e f h = (
 pub apart-IsGap : (high low : Bound) (last first : Pos) → last_to high ≡ Some last → first_from low ≡ Some first → IsGap high low → (last.0 +ℤ pos 1) <ℤ first.0
 apart-IsGap high low last first e f gap =
     let p : ℤ = gap.0 in
-    let above = not_later p last.0 (sym (ends_after-to high last e p) ∙ gap.1) in
-    let below = not_later first.0 p (sym (reaches-from low first f p) ∙ gap.2) in
+    let above = int_le-false p last.0 (sym (ends_after-to high last e p) ∙ gap.1) in
+    let below = int_le-false first.0 p (sym (reaches-from low first f p) ∙ gap.2) in
     omega (arith, ints)
 
 -- what lies above one low bound and below another high one lies in one of the two spans, where no gap is between them
@@ -168,11 +156,12 @@ one_stretch a b c d no_gap none_back p q r pq qr in_p in_r =
       ]
     ]
 
+-- a position that a high bound allows is before one that it does not, and so with a low bound
 before : (high : Bound) (p q : ℤ) → ends_after high p ≡ true → ends_after high q ≡ false → p ≤ℤ q
 before high p q e f = elim (cases_Bool (int_le p q)) [
   | inl h ↦ int_le-true p q h
   | inr h ↦
-      let backwards : q <ℤ p = not_later p q h in
+      let backwards : q <ℤ p = int_le-false p q h in
       absurd (both_ways _ f (ends_after-earlier high q p (omega (arith, ints)) e))
 ]
 
@@ -180,11 +169,11 @@ after : (low : Bound) (q r : ℤ) → reaches low q ≡ false → reaches low r 
 after low q r f e = elim (cases_Bool (int_le q r)) [
   | inl h ↦ int_le-true q r h
   | inr h ↦
-      let backwards : r <ℤ q = not_later q r h in
+      let backwards : r <ℤ q = int_le-false q r h in
       absurd (both_ways _ f (reaches-later low r q (omega (arith, ints)) e))
 ]
 
--- and with a gap they are not, since each holds some position
+-- with a gap they are not, since each holds some position
 pub no_gap : (a b c d : Bound) → IsSpan a b → IsSpan c d → IsOneStretch (λ p. lies_between a b p || lies_between c d p) → IsGap b c → ⊥
 no_gap a b c d first other stretch gap =
     let q : ℤ = gap.0 in
@@ -201,13 +190,13 @@ no_gap a b c d first other stretch gap =
       | inr y ↦ both_ways (reaches c q) gap.2 (and_parts (reaches c q) (ends_after d q) y).0
     ]
 
--- the positions between the later low and the earlier high bound are those of both
 and_swapped : (w x y z : Bool) → ((w && x) && (y && z)) ≡ ((w && y) && (x && z))
 and_swapped true true y z = refl
 and_swapped true false true z = refl
 and_swapped true false false z = refl
 and_swapped false x y z = refl
 
+-- the positions between the later low and the earlier high bound are those of both spans
 pub in_both : (low high a b c d : Bound) → ((p : ℤ) → reaches low p ≡ (reaches a p && reaches c p)) → ((p : ℤ) → ends_after high p ≡ (ends_after b p && ends_after d p)) → (p : ℤ) → lies_between low high p ≡ (lies_between a b p && lies_between c d p)
 in_both low high a b c d e f p =
     rw (e p, f p) (and_swapped (reaches a p) (reaches c p) (ends_after b p) (ends_after d p))

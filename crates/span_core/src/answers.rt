@@ -37,7 +37,7 @@ pub enum Audited {
     Clear,
     /// The least member of the window.
     Member(Pos),
-    /// The budget was used up at this position, before which there is no member.
+    /// The budget was used up at this position, up to which the window has no member.
     Budget(Pos),
 }
 
