@@ -1,5 +1,5 @@
 -- How weeks and years go together.
-use Rattle.std.proofs.Common.{◌≡◌, ℕ, ◌+◌, ◌-◌, ◌*◌, ◌/◌, ◌%◌, ◌<◌, ◌≤◌, refl, ap, arith, ℤ, pos, ◌+ℤ◌, ◌-ℤ◌, ◌*ℤ◌, ◌<ℤ◌, ◌≤ℤ◌}
+use Rattle.std.proofs.Common.{◌≡◌, ℕ, ◌+◌, ◌-◌, ◌*◌, ◌/◌, ◌%◌, ◌<◌, refl, ap, arith, ℤ, pos, ◌+ℤ◌, ◌-ℤ◌, ◌*ℤ◌, ◌<ℤ◌, ◌≤ℤ◌}
 use Rattle.std.specs.Int.{IsInRange}
 use Rattle.moment_core.proofs.FloorLemmas.{floor_arith, one_part}
 use Rattle.moment_core.specs.Calendar.{year_len, first_day, year_of, days_into_year, weekday_of, week_start, week_one, week_year_of, week_of, weeks_in_year, week_number}

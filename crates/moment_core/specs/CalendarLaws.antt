@@ -107,7 +107,7 @@ DatesRepeat =
     × (weekday_of (day +ℤ pos 146_097) ≡ weekday_of day)
     × (month_number (day +ℤ pos 146_097) ≡ month_number day +ℤ pos 4800))
 
--- and so is the week, in a week-year 400 years later
+-- and so is the number of the week, in a week-year 400 years later with as many weeks
 abbrev pub WeeksRepeat : Type 0
 WeeksRepeat =
     (first : ℕ) → IsInRange 1 7 first
@@ -116,12 +116,13 @@ WeeksRepeat =
     × (week_of first (day +ℤ pos 146_097) ≡ week_of first day)
     × (week_number first (day +ℤ pos 146_097) ≡ week_number first day +ℤ pos 20_871))
 
--- so many seconds later the time of day is the same, 146,097 days later
+-- `G` seconds later the time of day is the same, 146,097 days later
 abbrev pub TimesRepeat : Type 0
 TimesRepeat =
     (t : ℤ) → (day_of (t +ℤ pos G) ≡ day_of t +ℤ pos 146_097) × (second_of_day (t +ℤ pos G) ≡ second_of_day t)
 
--- the calendar range is the years from -9900 to 9900, and the working range lies in those from -9990 to 9990
+-- the calendar range has `WIDTH` moments, those of the years from -9900 to 9900, and the working range lies in the years
+-- from -9990 to 9990
 abbrev pub RangesAreOfYears : Type 0
 RangesAreOfYears =
     (pos WIDTH ≡ HIGH -ℤ LOW +ℤ pos 1)
