@@ -1,0 +1,10 @@
+-- The laws of outcomes.
+use Rattle.std.specs.Prelude.{◌≡◌, ℕ, List}
+use Rattle.set_query.specs.Report.{Outcome, IsOutcome}
+
+abbrev pub OutcomesExist : Type 0
+OutcomesExist = (words : List (List ℕ)) (text : List ℕ) → (o : Outcome) × IsOutcome words text o
+
+-- no words and text have two outcomes
+abbrev pub OutcomesAreUnique : Type 0
+OutcomesAreUnique = (words : List (List ℕ)) (text : List ℕ) (a b : Outcome) → IsOutcome words text a → IsOutcome words text b → a ≡ b

@@ -1,0 +1,5 @@
+pub mod Effects
+pub mod Laws
+pub mod Members
+pub mod Report
+pub mod Texts

@@ -1,0 +1,53 @@
+//! Answers queries on sets of moments: words and a text in, lines and a status out.
+#![tactic(auto)]
+
+ghost use Rattle.std.specs.Prelude.{◌≡◌, ◌<◌};
+
+mod laws;
+mod query;
+mod reading;
+mod search;
+mod texts;
+mod words;
+mod writing;
+
+use moment_core::Steps;
+use outside_core::{StdSink, StdSource};
+use std::marker::Brand;
+use std::process::ExitCode;
+use std::sync::ledger::{Blank, Ledger};
+use std::{env, io};
+use stored_pair::Book;
+
+/// The words after the program's name.
+fn words_of(rt: &HostRuntime) -> io::Result<Vec<String>> {
+    let mut words = Vec::new(rt.alloc());
+    for word in env::args(rt)?.skip(1) {
+        words.push(word)?;
+    }
+    Ok(words)
+}
+
+/// Answers the query over the standard streams. Words that are no text are refused as wrong words are.
+fn answer<L: Ledger>(rt: &HostRuntime, blank: Blank) -> u8
+    requires name { blank.name ≡ L.name }
+    requires parts { blank.parts ≡ L.parts }
+    requires some { 0 < blank.parts }
+{
+    let alloc = rt.alloc();
+    let mut source = StdSource::new(rt.stdin());
+    let mut sink = StdSink::new(rt.stdout());
+    let Ok(words) = words_of(rt) else {
+        return writing::refuse(&mut sink);
+    };
+    let book = Book::empty(alloc);
+    let mut steps = Steps::<L>::new(blank);
+    query::run(alloc, &words, &book, &mut source, &mut sink, &mut steps)
+}
+
+fn main(rt: HostRuntime) -> ExitCode {
+    ExitCode::from(answer::<Brand>(&rt, Blank::new(1)))
+}
+
+#[cfg(test)]
+mod tests;

@@ -1,0 +1,232 @@
+ghost use Rattle.std.specs.Prelude.{◌≡◌, ◌<◌};
+
+use crate::query::run;
+use moment_core::Steps;
+use outside_core::{MemSink, MemSource, Sink, Source, SureSink, SureSource};
+use std::alloc::{AllocError, Global};
+use std::marker::Brand;
+use std::sync::ledger::{Blank, Ledger};
+use stored_pair::Book;
+
+fn words_of(alloc: Global, line: &str) -> Result<Vec<String>, AllocError> {
+    let mut words = Vec::new(alloc);
+    for word in line.split_whitespace() {
+        words.push(String::from_str(alloc, word)?)?;
+    }
+    Ok(words)
+}
+
+fn run_counted<S: Source, K: Sink, L: Ledger>(
+    alloc: Global,
+    line: &str,
+    source: &mut S,
+    sink: &mut K,
+    blank: Blank,
+) -> Result<u8, AllocError>
+    requires name { blank.name ≡ L.name }
+    requires parts { blank.parts ≡ L.parts }
+    requires some { 0 < blank.parts }
+{
+    let words = words_of(alloc, line)?;
+    let book = Book::empty(alloc);
+    let mut steps = Steps::<L>::new(blank);
+    Ok(run(alloc, &words, &book, source, sink, &mut steps))
+}
+
+fn status_of<S: Source, K: Sink>(
+    alloc: Global,
+    line: &str,
+    source: &mut S,
+    sink: &mut K,
+) -> Result<u8, AllocError> {
+    run_counted::<S, K, Brand>(alloc, line, source, sink, Blank::new(1))
+}
+
+// python3's dates give the answers; years below 1 are moved by 12,000 years, which are 30 times 146,097 days.
+#[test]
+fn the_next_day_of_a_month_is_written_or_edge_or_a_refusal(rt: HostRuntime) {
+    let alloc = rt.alloc();
+    let refused = "refused unbuilt\n";
+    for (line, text, status, written) in [
+        (
+            "next at=2024-02-10T00:00:00",
+            "monthly(days=29)",
+            0u8,
+            "2024-02-29T00:00:00\n",
+        ),
+        (
+            "next at=2024-04-01T00:00:00",
+            "monthly(days=31)\n",
+            0,
+            "2024-05-31T00:00:00\n",
+        ),
+        (
+            "next at=2024-02-28T23:59:59",
+            "monthly(days=29)",
+            0,
+            "2024-02-29T00:00:00\n",
+        ),
+        // strictly after
+        (
+            "next at=2024-02-29T00:00:00",
+            "monthly(days=29)",
+            0,
+            "2024-03-29T00:00:00\n",
+        ),
+        // over centuries and the year 0
+        (
+            "next at=1900-02-01T00:00:00",
+            "monthly(days=29)",
+            0,
+            "1900-03-29T00:00:00\n",
+        ),
+        (
+            "next at=2000-02-01T00:00:00",
+            "monthly(days=29)",
+            0,
+            "2000-02-29T00:00:00\n",
+        ),
+        (
+            "next at=2100-02-01T00:00:00",
+            "monthly(days=29)",
+            0,
+            "2100-03-29T00:00:00\n",
+        ),
+        (
+            "next at=0000-02-01T00:00:00",
+            "monthly(days=29)",
+            0,
+            "0000-02-29T00:00:00\n",
+        ),
+        (
+            "next at=-0100-02-01T00:00:00",
+            "monthly(days=29)",
+            0,
+            "-0100-03-29T00:00:00\n",
+        ),
+        (
+            "next at=-0001-12-31T00:00:00",
+            "monthly(days=1)",
+            0,
+            "0000-01-01T00:00:00\n",
+        ),
+        // at the ends of the range
+        (
+            "next at=-9900-01-01T00:00:00",
+            "monthly(days=1)",
+            0,
+            "-9900-02-01T00:00:00\n",
+        ),
+        (
+            "next at=9900-12-30T23:59:59",
+            "monthly(days=31)",
+            0,
+            "9900-12-31T00:00:00\n",
+        ),
+        (
+            "next at=9900-12-31T00:00:00",
+            "monthly(days=31)",
+            0,
+            "edge\n",
+        ),
+        (
+            "next at=9900-12-01T12:00:00",
+            "monthly(days=1)",
+            0,
+            "edge\n",
+        ),
+        ("next at=9901-01-01T00:00:00", "monthly(days=1)", 2, refused),
+        // other texts
+        ("next at=2024-01-01T00:00:00", "monthly(days=0)", 2, refused),
+        (
+            "next at=2024-01-01T00:00:00",
+            "monthly(days=01)",
+            2,
+            refused,
+        ),
+        (
+            "next at=2024-01-01T00:00:00",
+            "monthly(days=32)",
+            2,
+            refused,
+        ),
+        (
+            "next at=2024-01-01T00:00:00",
+            "monthly(days=29)\n\n",
+            2,
+            refused,
+        ),
+        (
+            "next at=2024-01-01T00:00:00",
+            "monthly(days=29)                 ",
+            2,
+            refused,
+        ),
+        (
+            "next at=2024-01-01T00:00:00",
+            "monthly(days=29)                  ",
+            2,
+            refused,
+        ),
+        ("next at=2024-01-01T00:00:00", "", 2, refused),
+        // other words
+        (
+            "next at=2024-01-01T00:00:00Z",
+            "monthly(days=29)",
+            2,
+            refused,
+        ),
+        (
+            "next at=2024-02-30T00:00:00",
+            "monthly(days=29)",
+            2,
+            refused,
+        ),
+        (
+            "at=2024-01-01T00:00:00 next",
+            "monthly(days=29)",
+            2,
+            refused,
+        ),
+        (
+            "next at=2024-01-01T00:00:00 budget=1",
+            "monthly(days=29)",
+            2,
+            refused,
+        ),
+        ("next", "monthly(days=29)", 2, refused),
+        ("", "monthly(days=29)", 2, refused),
+    ] {
+        let text = Vec::from_slice(alloc, text.as_bytes()).expect(&rt, "");
+        let mut source = SureSource::new(text);
+        let mut sink = SureSink::new(alloc, 64).expect(&rt, "");
+        let answer = status_of(alloc, line, &mut source, &mut sink).expect(&rt, "");
+        assert_eq!(rt; answer, status, "at {line}");
+        assert!(rt; sink.taken() == written.as_bytes(), "at {line}");
+    }
+}
+
+#[test]
+fn a_failed_read_is_status_4_and_a_failed_write_status_5(rt: HostRuntime) {
+    let alloc = rt.alloc();
+    let line = "next at=2024-02-10T00:00:00";
+    let text = b"monthly(days=29)";
+
+    let first = Vec::from_slice(alloc, &[0u64]).expect(&rt, "");
+    let mut source = MemSource::new(Vec::from_slice(alloc, text).expect(&rt, ""), first);
+    let mut sink = MemSink::new(alloc, 64, Vec::new(alloc)).expect(&rt, "");
+    assert_eq!(rt;
+        status_of(alloc, line, &mut source, &mut sink).expect(&rt, ""),
+        4
+    );
+    assert!(rt; sink.taken() == b"".as_slice());
+
+    let first = Vec::from_slice(alloc, &[0u64]).expect(&rt, "");
+    let mut source = SureSource::new(Vec::from_slice(alloc, text).expect(&rt, ""));
+    let mut sink = MemSink::new(alloc, 64, first).expect(&rt, "");
+    assert_eq!(rt;
+        status_of(alloc, line, &mut source, &mut sink).expect(&rt, ""),
+        5
+    );
+    assert!(rt; sink.taken() == b"".as_slice());
+}
