@@ -1,12 +1,12 @@
 -- The runs of a set of moments, each of one position, found moment by moment.
-use Rattle.std.proofs.Common.{◌≡◌, ℕ, zero, suc, ◌+◌, ◌-◌, ◌*◌, ◌/◌, ◌%◌, ◌<◌, ◌≤◌, Bool, true, false, ◌&&◌, ◌⊎◌, inl, inr, refl, sym, ◌∙◌, ap, subst, arith, Option, Some, None, ℤ, pos, ◌+ℤ◌, ◌-ℤ◌, ◌*ℤ◌, ◌<ℤ◌, ◌≤ℤ◌, unsigned_abs}
+use Rattle.std.proofs.Common.{◌≡◌, ℕ, ◌+◌, ◌-◌, ◌*◌, ◌/◌, ◌%◌, ◌<◌, Bool, true, false, ◌&&◌, ◌⊎◌, inl, inr, refl, sym, ◌∙◌, ap, subst, arith, Option, Some, None, ℤ, pos, ◌+ℤ◌, ◌-ℤ◌, ◌<ℤ◌, unsigned_abs}
 use Rattle.std.proofs.lemmas.Bool.{cases_eq}
 use Rattle.std.proofs.lemmas.Bool.Decides.{Decides-int_eq}
 use Rattle.std.specs.Ordering.{int_eq}
 use Rattle.moment_core.specs.declared.line.Dir.TheVariants.{Fore}
 use Rattle.moment_core.specs.declared.line.TheConstants.{HIGH}
 use Rattle.moment_core.specs.Line.{IsCalendarPosition, moment_of, position_of}
-use Rattle.moment_core.specs.Sets.{IsNextBeginning, NoneBegins, BeginsFirst, moments_in, seen, ahead}
+use Rattle.moment_core.specs.Sets.{IsNextBeginning, NoneBegins, moments_in, seen}
 use Rattle.moment_core.specs.declared.line.Moment.{Moment}
 use Rattle.moment_text.specs.Literal.{literal_of}
 use Rattle.set_query.specs.Report.{IsNextLine, found, edge}

@@ -1,6 +1,6 @@
 -- Words and a text have one outcome.
-use Rattle.std.proofs.Common.{◌≡◌, ◌<◌, ◌≤◌, ◌+◌, ◌-◌, ◌++◌, ◌∷◌, [], ℕ, zero, suc, ℤ, pos, ◌+ℤ◌, ◌-ℤ◌, Bool, true, false, not, ◌&&◌, ◌⊎◌, inl, inr, List, codes, decimal, sym, ◌∙◌, ap, subst, refl, arith, unsigned_abs}
-use Rattle.std.proofs.lemmas.Bool.{cases_lt, true≢false, and_parts, and_from}
+use Rattle.std.proofs.Common.{◌≡◌, ◌<◌, ◌≤◌, ◌+◌, ◌-◌, ◌++◌, ◌∷◌, [], ℕ, zero, suc, ℤ, pos, ◌+ℤ◌, ◌-ℤ◌, Bool, true, false, not, ◌&&◌, ◌||◌, ◌⊎◌, inl, inr, List, codes, decimal, sym, ◌∙◌, ap, subst, refl, arith, unsigned_abs}
+use Rattle.std.proofs.lemmas.Bool.{cases_lt, true≢false, and_parts, and_from, not-true, or_cases, or_left, or_right}
 use Rattle.std.proofs.lemmas.Fmt.{decimal_injective}
 use Rattle.std.proofs.lemmas.List.{append_cancel_left}
 use Rattle.std.proofs.lemmas.Slice.Eq.{bytes_eq-Decides, slice_eq-Decides}
@@ -10,13 +10,13 @@ use Rattle.std.specs.Str.{bytes_eq}
 use Rattle.moment_core.specs.declared.line.Dir.TheVariants.{Fore}
 use Rattle.moment_core.specs.declared.line.TheConstants.{LOW, HIGH, WIDTH}
 use Rattle.moment_core.specs.Line.{IsCalendarMoment, IsCalendarPosition, IsWorkingMoment, moment_of, position_of}
-use Rattle.moment_core.specs.Sets.{BeginsFirst, IsNextBeginning, NoneBegins, moments_in, seen, ahead}
+use Rattle.moment_core.specs.Sets.{BeginsFirst, IsNextBeginning, NoneBegins, moments_in, seen}
 use Rattle.moment_core.proofs.FloorLemmas.{floor_arith}
 use Rattle.moment_text.specs.Laws.{LiteralsTellMomentsApart}
 use Rattle.moment_text.specs.Literal.{literal_of}
-use Rattle.set_query.specs.Laws.{OutcomesAreUnique}
+use Rattle.set_query.specs.Laws.{OutcomesAreUnique, OutcomesExist}
 use Rattle.set_query.specs.Report.{Outcome, IsOutcome, IsNextLine, answered, refused, found, edge, other_words, other_text, next}
-use Rattle.set_query.specs.Texts.{AsksNext, SpellsMonthly, is_monthly}
+use Rattle.set_query.specs.Texts.{AsksNext, IsLine, SpellsMonthly, is_monthly, monthly_text}
 use Rattle.set_query.proofs.TextLemmas.{one_digits}
 
 -- a run begins first at one place
@@ -84,3 +84,135 @@ outcomes_are_unique apart words text a b (next at day line asks s is) (next at_b
     let days : day_b ≡ day = one_day text day_b day s_b s in
     let moved = subst (λ d. IsNextLine (moments_in (is_monthly d)) at line_b) days (subst (λ t. IsNextLine (moments_in (is_monthly day_b)) t line_b) moment is_b) in
     ap answered (one_line (moments_in (is_monthly day)) at is moved)
+
+-- the least of the numbers below n that pass, or that none does
+first_or_none : (p : ℕ → Bool) (n : ℕ) → ((k : ℕ) × (k < n) × (p k ≡ true) × ((j : ℕ) → j < k → p j ≡ false)) ⊎ ((k : ℕ) → k < n → p k ≡ false)
+first_or_none p zero = inr (λ k less. absurd (omega arith))
+first_or_none p (suc n) =
+    elim (first_or_none p n) [
+      | inl f ↦ inl (f.0, omega (arith, f.1), f.2, f.3)
+      | inr none ↦ by_value (p n) refl none
+    ]
+  where
+    by_value : (b : Bool) → p n ≡ b → ((k : ℕ) → k < n → p k ≡ false) → ((k : ℕ) × (k < suc n) × (p k ≡ true) × ((j : ℕ) → j < k → p j ≡ false)) ⊎ ((k : ℕ) → k < suc n → p k ≡ false)
+    by_value true e none = inl (n, omega arith, e, none)
+    by_value false e none = inr (λ k less. elim (cases_lt k n) [ inl below ↦ none k below | inr up ↦ (let same : k ≡ n = omega arith in ap p same ∙ e) ])
+
+-- the words that ask for a moment
+asking : ℤ → List (List ℕ)
+asking at = codes "next" ∷ (codes "at=" ++ literal_of at false) ∷ []
+
+asking-is : (at : ℤ) → asking at ≡ codes "next" ∷ (codes "at=" ++ literal_of at false) ∷ []
+unfolding asking
+asking-is at = refl
+
+same_words : (a b : List (List ℕ)) → Decides (pointwise bytes_eq a b) (a ≡ b)
+same_words a b = slice_eq-Decides bytes_eq-Decides a b (pointwise bytes_eq a b) refl
+
+asks_or_not : (words : List (List ℕ)) → ((at : ℤ) × AsksNext words at) ⊎ ((at : ℤ) → AsksNext words at → ⊥)
+asks_or_not words =
+    elim (first_or_none (λ k. pointwise bytes_eq words (asking (LOW +ℤ pos k))) WIDTH) [
+      | inl f ↦ (let at = LOW +ℤ pos f.0 in
+          let is : words ≡ asking at = (same_words words (asking at)).0 f.2 in
+          inl (
+            at,
+            record {
+              word = codes "at=" ++ literal_of at false;
+              words_are = is ∙ asking-is at;
+              tells = record { word_is = refl; in_range = (omega (arith, floor_arith), omega (arith, floor_arith, f.1)) };
+            },
+          ))
+      | inr none ↦ inr (λ at asks. not_asked none at asks)
+    ]
+  where
+    not_asked : ((k : ℕ) → k < WIDTH → pointwise bytes_eq words (asking (LOW +ℤ pos k)) ≡ false) → (at : ℤ) → AsksNext words at → ⊥
+    not_asked none at asks =
+        let k = unsigned_abs (at -ℤ LOW) in
+        let low = asks.tells.in_range.0 in
+        let high = asks.tells.in_range.1 in
+        let there : at ≡ LOW +ℤ pos k = omega (arith, floor_arith, low) in
+        let within : k < WIDTH = omega (arith, floor_arith, low, high) in
+        let is : words ≡ asking at = asks.words_are ∙ ap (λ w. codes "next" ∷ w ∷ []) asks.tells.word_is ∙ sym (asking-is at) in
+        let same : words ≡ asking (LOW +ℤ pos k) = is ∙ ap asking there in
+        true≢false (sym ((same_words words (asking (LOW +ℤ pos k))).1 same) ∙ none k within)
+
+spells : List ℕ → ℕ → Bool
+spells text k = bytes_eq text (monthly_text (decimal (k + 1))) || bytes_eq text (monthly_text (decimal (k + 1)) ++ 10 ∷ [])
+
+spelled : (text : List ℕ) (k : ℕ) → spells text k ≡ true → IsLine text (monthly_text (decimal (k + 1)))
+unfolding spells
+spelled text k e =
+    elim (or_cases (bytes_eq text (monthly_text (decimal (k + 1)))) (bytes_eq text (monthly_text (decimal (k + 1)) ++ 10 ∷ [])) e) [
+      | inl a ↦ inl ((bytes_eq-Decides text (monthly_text (decimal (k + 1)))).0 a)
+      | inr b ↦ inr ((bytes_eq-Decides text (monthly_text (decimal (k + 1)) ++ 10 ∷ [])).0 b)
+    ]
+
+spelled_so : (text : List ℕ) (k : ℕ) → IsLine text (monthly_text (decimal (k + 1))) → spells text k ≡ true
+unfolding spells
+spelled_so text k (inl e) = or_left (bytes_eq text (monthly_text (decimal (k + 1)))) (bytes_eq text (monthly_text (decimal (k + 1)) ++ 10 ∷ [])) ((bytes_eq-Decides text (monthly_text (decimal (k + 1)))).1 e)
+spelled_so text k (inr e) = or_right (bytes_eq text (monthly_text (decimal (k + 1)))) (bytes_eq text (monthly_text (decimal (k + 1)) ++ 10 ∷ [])) ((bytes_eq-Decides text (monthly_text (decimal (k + 1)) ++ 10 ∷ [])).1 e)
+
+spells_or_not : (text : List ℕ) → ((day : ℕ) × SpellsMonthly text day) ⊎ ((day : ℕ) → SpellsMonthly text day → ⊥)
+spells_or_not text =
+    elim (first_or_none (spells text) 31) [
+      | inl f ↦ inl (f.0 + 1, record { in_month = (omega arith, omega (arith, f.1)); text_is = spelled text f.0 f.2 })
+      | inr none ↦ inr (λ day s. not_spelled none day s)
+    ]
+  where
+    not_spelled : ((k : ℕ) → k < 31 → spells text k ≡ false) → (day : ℕ) → SpellsMonthly text day → ⊥
+    not_spelled none day s =
+        let low = s.in_month.0 in
+        let high = s.in_month.1 in
+        let same : day ≡ (day - 1) + 1 = omega (arith, low) in
+        let is = subst (λ d. IsLine text (monthly_text (decimal d))) same s.text_is in
+        true≢false (sym (spelled_so text (day - 1) is) ∙ none (day - 1) (omega (arith, low, high)))
+
+-- a run begins somewhere in the range, or none does
+begins_or_not : (set : ℤ → Bool) (at : ℤ) → IsCalendarMoment at → (line : List ℕ) × IsNextLine set at line
+begins_or_not set at range =
+    elim (first_or_none begins n) [
+      | inl f ↦ (let q = position_of at +ℤ pos (f.0 + 1) in
+          let parts = and_parts (seen set Fore (position_of at) (f.0 + 1)) (not (seen set Fore (position_of at) f.0)) f.2 in
+          let low = range.0 in
+          let inside : IsCalendarPosition q = (omega (arith, floor_arith, low), omega (arith, floor_arith, f.1)) in (
+            literal_of (moment_of q) false,
+            found q (
+              f.0,
+              refl,
+              record {
+                begins = parts.0;
+                fresh = not-true (seen set Fore (position_of at) f.0) parts.1;
+                none_before = λ j less is. held j is (f.3 j less);
+              },
+            ) inside,
+          ))
+      | inr none ↦ (codes "edge", edge (λ k inside is. held k is (none k (omega (arith, floor_arith, inside.1)))))
+    ]
+  where
+    begins : ℕ → Bool
+    begins k = seen set Fore (position_of at) (k + 1) && not (seen set Fore (position_of at) k)
+
+    n : ℕ
+    n = unsigned_abs (position_of HIGH -ℤ position_of at)
+
+    held : (j : ℕ) → seen set Fore (position_of at) (j + 1) ≡ true → begins j ≡ false → seen set Fore (position_of at) j ≡ true
+    held j is out = by_value (seen set Fore (position_of at) j) refl
+      where
+        by_value : (b : Bool) → seen set Fore (position_of at) j ≡ b → b ≡ true
+        by_value true e = refl
+        by_value false e = absurd (true≢false (sym (and_from (seen set Fore (position_of at) (j + 1)) (not (seen set Fore (position_of at) j)) is (ap not e)) ∙ out))
+
+pub outcomes_exist : OutcomesExist
+outcomes_exist words text =
+    elim (asks_or_not words) [
+      | inl a ↦ over a.0 a.1
+      | inr none ↦ (refused, other_words none)
+    ]
+  where
+    over : (at : ℤ) → AsksNext words at → (o : Outcome) × IsOutcome words text o
+    over at asks =
+        elim (spells_or_not text) [
+          | inl s ↦ (let line = begins_or_not (moments_in (is_monthly s.0)) at asks.tells.in_range in
+              (answered line.0, next at s.0 line.0 asks s.1 line.1))
+          | inr other ↦ (refused, other_text at asks other)
+        ]

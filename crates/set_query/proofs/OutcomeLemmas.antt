@@ -1,12 +1,11 @@
 -- The outcome of a text from its first bytes, and what was put of it.
-use Rattle.std.proofs.Common.{◌≡◌, ◌≤◌, ◌<◌, ◌⊎◌, ◌+◌, ◌++◌, ◌∷◌, [], ℕ, ℤ, List, length, take, drop, codes, decimal, sym, ◌∙◌, ap, subst, arith, inl, inr, lit<, lit≤, Option, Some, None, IfSome, refl}
+use Rattle.std.proofs.Common.{◌≡◌, ◌≤◌, ◌<◌, ◌⊎◌, [], ℕ, List, length, take, drop, decimal, sym, ◌∙◌, ap, subst, arith, inl, inr, lit<, Option, Some, None, IfSome, refl}
 use Rattle.std.proofs.lemmas.Bool.{cases_lt}
 use Rattle.std.proofs.lemmas.Fmt.{length-decimal-le}
 use Rattle.std.proofs.lemmas.Grind.{common_steps}
-use Rattle.outside_core.specs.Outside.{Rose, Puts}
-use Rattle.set_query.specs.Effects.{IsDone, IsWritten, IsReported, IsOutcomeOf, Answers, BreaksOff, ReadsFront}
+use Rattle.set_query.specs.Effects.{IsDone, IsWritten, IsOutcomeOf, Answers, BreaksOff, ReadsFront}
 use Rattle.set_query.specs.Report.{Outcome, IsOutcome, other_words, other_text, next}
-use Rattle.set_query.specs.Texts.{AsksNext, SpellsMonthly, IsLine, monthly_text}
+use Rattle.set_query.specs.Texts.{SpellsMonthly, IsLine, monthly_text}
 
 -- the texts that are answered are short
 short_line : (text : List ℕ) (day : ℕ) → SpellsMonthly text day → length text < 33

@@ -1,5 +1,5 @@
 -- Texts and the digits in them.
-use Rattle.std.proofs.Common.{◌≡◌, ◌≢◌, ◌<◌, ◌++◌, ◌∷◌, ℕ, List, [], codes, decimal, refl, sym, ◌∙◌, ap, subst, inl, inr, arith, lit<, Option, Some, None, Bor, Result, Ok, Err}
+use Rattle.std.proofs.Common.{◌≡◌, ◌≢◌, ◌<◌, ◌++◌, ◌∷◌, ℕ, List, [], codes, decimal, refl, sym, ◌∙◌, ap, inl, inr, arith, lit<, Option, Some, None, Bor}
 use Rattle.std.proofs.lemmas.Fmt.{IsAscii-decimal}
 use Rattle.std.proofs.lemmas.List.{append_cancel_left, append_cancel_right}
 use Rattle.std.proofs.lemmas.Str.{IsUtf8-from_ascii}

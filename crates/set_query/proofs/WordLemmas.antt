@@ -1,11 +1,10 @@
 -- Words and the moments in them.
-use Rattle.std.proofs.Common.{◌≡◌, ◌<◌, ◌≤◌, ◌++◌, ◌∷◌, [], ℕ, ℤ, List, Bool, true, false, codes, length, get_or, sym, ◌∙◌, ap, subst, refl, arith, Option, Some, None, IfSome}
+use Rattle.std.proofs.Common.{◌≡◌, ◌<◌, ◌≤◌, ◌++◌, ◌∷◌, [], ℕ, ℤ, List, Bool, true, false, codes, length, get_or, sym, ◌∙◌, ap, arith, Option, Some, None, IfSome}
 use Rattle.std.proofs.lemmas.Bool.{true≢false}
 use Rattle.std.proofs.lemmas.Grind.{common_steps}
 use Rattle.std.proofs.lemmas.List.{append_cancel_left}
 use Rattle.moment_core.specs.declared.line.Moment.{Moment}
 use Rattle.moment_core.specs.declared.line.Stamp.{Stamp}
-use Rattle.moment_core.specs.Line.{IsCalendarMoment}
 use Rattle.moment_text.specs.Literal.{Names, literal_of}
 use Rattle.set_query.specs.Texts.{AsksNext, IsAt}
 

@@ -1,8 +1,11 @@
-ghost use Rattle.std.specs.Prelude.{◌≡◌, ◌<◌};
+ghost use Rattle.std.specs.Prelude.{◌≡◌, ◌<◌, Some, map};
+ghost use Rattle.std.specs.String.{string_bytes};
+ghost use Rattle.outside_core.specs.Memory.{told};
+ghost use Rattle.set_query.specs.Effects.{Answers};
 
 use crate::query::run;
 use moment_core::Steps;
-use outside_core::{MemSink, MemSource, Sink, Source, SureSink, SureSource};
+use outside_core::{MemSink, MemSource, SureSink, SureSource};
 use std::alloc::{AllocError, Global};
 use std::marker::Brand;
 use std::sync::ledger::{Blank, Ledger};
@@ -16,30 +19,51 @@ fn words_of(alloc: Global, line: &str) -> Result<Vec<String>, AllocError> {
     Ok(words)
 }
 
-fn run_counted<S: Source, K: Sink, L: Ledger>(
+// Without faults the status and the line are always those of the words and the text.
+fn run_sure<L: Ledger>(
     alloc: Global,
-    line: &str,
-    source: &mut S,
-    sink: &mut K,
+    words: &[String],
+    source: &mut SureSource,
+    sink: &mut SureSink,
     blank: Blank,
-) -> Result<u8, AllocError>
+) -> u8
+    requires name { blank.name ≡ L.name }
+    requires parts { blank.parts ≡ L.parts }
+    requires some { 0 < blank.parts }
+    ensures { Answers (map string_bytes words.now) (Some source.old) (told sink.old) (told sink.new) result }
+{
+    let book = Book::empty(alloc);
+    let mut steps = Steps::<L>::new(blank);
+    run(alloc, words, &book, source, sink, &mut steps)
+}
+
+fn run_with_faults<L: Ledger>(
+    alloc: Global,
+    words: &[String],
+    source: &mut MemSource,
+    sink: &mut MemSink,
+    blank: Blank,
+) -> u8
     requires name { blank.name ≡ L.name }
     requires parts { blank.parts ≡ L.parts }
     requires some { 0 < blank.parts }
 {
-    let words = words_of(alloc, line)?;
     let book = Book::empty(alloc);
     let mut steps = Steps::<L>::new(blank);
-    Ok(run(alloc, &words, &book, source, sink, &mut steps))
+    run(alloc, words, &book, source, sink, &mut steps)
 }
 
-fn status_of<S: Source, K: Sink>(
+fn answer(alloc: Global, words: &[String], source: &mut SureSource, sink: &mut SureSink) -> u8 {
+    run_sure::<Brand>(alloc, words, source, sink, Blank::new(1))
+}
+
+fn answer_with_faults(
     alloc: Global,
-    line: &str,
-    source: &mut S,
-    sink: &mut K,
-) -> Result<u8, AllocError> {
-    run_counted::<S, K, Brand>(alloc, line, source, sink, Blank::new(1))
+    words: &[String],
+    source: &mut MemSource,
+    sink: &mut MemSink,
+) -> u8 {
+    run_with_faults::<Brand>(alloc, words, source, sink, Blank::new(1))
 }
 
 // python3's dates give the answers; years below 1 are moved by 12,000 years, which are 30 times 146,097 days.
@@ -200,8 +224,9 @@ fn the_next_day_of_a_month_is_written_or_edge_or_a_refusal(rt: HostRuntime) {
         let text = Vec::from_slice(alloc, text.as_bytes()).expect(&rt, "");
         let mut source = SureSource::new(text);
         let mut sink = SureSink::new(alloc, 64).expect(&rt, "");
-        let answer = status_of(alloc, line, &mut source, &mut sink).expect(&rt, "");
-        assert_eq!(rt; answer, status, "at {line}");
+        let words = words_of(alloc, line).expect(&rt, "");
+        let answered = answer(alloc, &words, &mut source, &mut sink);
+        assert_eq!(rt; answered, status, "at {line}");
         assert!(rt; sink.taken() == written.as_bytes(), "at {line}");
     }
 }
@@ -209,24 +234,15 @@ fn the_next_day_of_a_month_is_written_or_edge_or_a_refusal(rt: HostRuntime) {
 #[test]
 fn a_failed_read_is_status_4_and_a_failed_write_status_5(rt: HostRuntime) {
     let alloc = rt.alloc();
-    let line = "next at=2024-02-10T00:00:00";
-    let text = b"monthly(days=29)";
-
-    let first = Vec::from_slice(alloc, &[0u64]).expect(&rt, "");
-    let mut source = MemSource::new(Vec::from_slice(alloc, text).expect(&rt, ""), first);
-    let mut sink = MemSink::new(alloc, 64, Vec::new(alloc)).expect(&rt, "");
-    assert_eq!(rt;
-        status_of(alloc, line, &mut source, &mut sink).expect(&rt, ""),
-        4
-    );
-    assert!(rt; sink.taken() == b"".as_slice());
-
-    let first = Vec::from_slice(alloc, &[0u64]).expect(&rt, "");
-    let mut source = SureSource::new(Vec::from_slice(alloc, text).expect(&rt, ""));
-    let mut sink = MemSink::new(alloc, 64, first).expect(&rt, "");
-    assert_eq!(rt;
-        status_of(alloc, line, &mut source, &mut sink).expect(&rt, ""),
-        5
-    );
-    assert!(rt; sink.taken() == b"".as_slice());
+    let words = words_of(alloc, "next at=2024-02-10T00:00:00").expect(&rt, "");
+    for (failed_reads, failed_writes, status) in [(1usize, 0usize, 4u8), (0, 1, 5)] {
+        let text = Vec::from_slice(alloc, b"monthly(days=29)").expect(&rt, "");
+        let reads = Vec::from_slice(alloc, &[0u64][..failed_reads]).expect(&rt, "");
+        let writes = Vec::from_slice(alloc, &[0u64][..failed_writes]).expect(&rt, "");
+        let mut source = MemSource::new(text, reads);
+        let mut sink = MemSink::new(alloc, 64, writes).expect(&rt, "");
+        let answered = answer_with_faults(alloc, &words, &mut source, &mut sink);
+        assert_eq!(rt; answered, status);
+        assert!(rt; sink.taken() == b"".as_slice());
+    }
 }

@@ -1,4 +1,4 @@
-use Rattle.std.proofs.Common.{rules, ◌≡◌, map, ℤ, inl}
+use Rattle.std.proofs.Common.{rules, map, ℤ, inl}
 use Rattle.std.specs.String.{string_bytes}
 use Rattle.set_query.specs.Report.{refused, other_words}
 use Rattle.set_query.specs.Texts.{AsksNext}

@@ -1,9 +1,8 @@
 use Rattle.std.proofs.Common.{rules, arith, pos, ◌+ℤ◌, ◌≡◌, false}
 use Rattle.moment_core.specs.Line.{IsCalendarMoment}
-use Rattle.moment_core.specs.declared.line.TheConstants.{LOW, HIGH}
+use Rattle.moment_core.specs.declared.line.TheConstants.{HIGH}
 use Rattle.moment_core.proofs.FloorLemmas.{floor_arith}
 use Rattle.sieve_core.specs.Members.{has, is_candidate}
-use Rattle.set_query.specs.Members.{NoneBetween}
 use Rattle.set_query.proofs.SearchLemmas.{none_passed, none_left, later_candidate, none_over, none_up_to, none_within, past_range}
 use Rattle.set_query.proofs.search.next_member.Goals as goal
 
