@@ -1,6 +1,17 @@
 //! The tokens of the expression language.
 #![tactic(auto)]
 
+mod class;
+mod fault;
+mod laws;
+mod names;
+mod reading;
 mod token;
 
+pub use fault::TokenFault;
+pub use laws::token_laws;
+pub use reading::tokens;
 pub use token::{Operator, Token, Word};
+
+#[cfg(test)]
+mod tests;
