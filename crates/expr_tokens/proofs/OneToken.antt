@@ -1,7 +1,6 @@
 -- How the bytes of each kind of token are read, whatever may stand behind them.
-use Rattle.std.proofs.Common.{◌≡◌, ℕ, zero, suc, ◌≤◌, ◌<◌, ℤ, pos, Bool, true, false, cond, ◌&&◌, ◌||◌, ◌⊎◌, inl, inr, List, [], ◌∷◌, ◌++◌, length, take, drop, Option, Some, None, refl, sym, ap, subst, ◌∙◌, append_assoc, arith}
+use Rattle.std.proofs.Common.{◌≡◌, ℕ, suc, ◌≤◌, ◌<◌, pos, Bool, true, false, cond, ◌&&◌, ◌||◌, ◌⊎◌, inl, inr, List, [], ◌∷◌, ◌++◌, length, take, drop, Option, Some, None, refl, sym, ap, subst, ◌∙◌, append_assoc, arith}
 use Rattle.std.specs.Prelude.{nat_le, ◌==◌, codes}
-use Rattle.std.specs.Char.{is_ascii_digit}
 use Rattle.std.proofs.Math.Seq.{take-append_seam, drop-append_seam}
 use Rattle.std.proofs.lemmas.List.{take-append-drop}
 use Rattle.std.specs.List.{list_all}
@@ -130,12 +129,12 @@ number_there minus digits rest are stop =
 pub figures_first : (b : ℕ) (bytes : List ℕ) → begins_number b bytes ≡ true → (token_at b bytes ≡ figures_at (b ∷ bytes)) × (holds classes.Blank b ≡ false)
 unfolding token_at
 figures_first b bytes begins = elim (or_cases (holds classes.Digit b) (b == 45 && begins_digit bytes) begins) [
-    inl digit ↦ let byte = digit_byte b digit in (rw (byte.letter, byte.quote, digit) refl, byte.blank)
+  | inl digit ↦ let byte = digit_byte b digit in (rw (byte.letter, byte.quote, digit) refl, byte.blank)
   | inr minus ↦
       let parts = and_parts (b == 45) (begins_digit bytes) minus in
       let P : ℕ → Type 0 = λ k. (token_at k bytes ≡ figures_at (k ∷ bytes)) × (holds classes.Blank k ≡ false) in
       subst P (sym (eqb-true b 45 parts.0)) (rw parts.1 refl, refl)
-  ]
+]
 
 -- so many digits stand there, and a minus behind them
 pub record Dashed (n : ℕ) (bytes : List ℕ) : Type 0 where
@@ -206,9 +205,9 @@ not_dashed n digits rest each stop dashed =
 
 no_literal : (bytes : List ℕ) → ((front others : List ℕ) → bytes ≡ front ++ others → is_shaped front ≡ true → ⊥) → shaped_front bytes ≡ 0
 no_literal bytes none = elim (cases_lt 0 (shaped_front bytes)) [
-    inl some ↦ absurd (none (take (shaped_front bytes) bytes) (drop (shaped_front bytes) bytes) (sym (take-append-drop (shaped_front bytes) bytes)) ((longest_front bytes).shaped some))
+  | inl some ↦ absurd (none (take (shaped_front bytes) bytes) (drop (shaped_front bytes) bytes) (sym (take-append-drop (shaped_front bytes) bytes)) ((longest_front bytes).shaped some))
   | inr le ↦ omega (arith, le)
-  ]
+]
 
 minus_not_digit : (digits tail rest others : List ℕ) → list_all (holds classes.Digit) digits ≡ true → 0 < length digits → digits ++ rest ≡ 45 ∷ tail ++ others → ⊥
 minus_not_digit [] tail rest others each some e = absurd (omega arith)
@@ -219,9 +218,9 @@ minus_not_digit (d ∷ digits) tail rest others each some e =
 
 number_no_literal : (digits rest : List ℕ) → AreDigits digits → goes_on rest ≡ false → (front others : List ℕ) → digits ++ rest ≡ front ++ others → is_shaped front ≡ true → ⊥
 number_no_literal digits rest are stop front others e shaped = elim (begins_year front others shaped) [
-    inl dashed ↦ not_dashed 4 digits rest are.each stop (rw e dashed)
+  | inl dashed ↦ not_dashed 4 digits rest are.each stop (rw e dashed)
   | inr w ↦ minus_not_digit digits w.0 rest others are.each are.some (e ∙ ap (λ (x : List ℕ). x ++ others) w.1)
-  ]
+]
 
 no_run_at_minus : (n : ℕ) (bytes : List ℕ) → Dashed (suc n) (45 ∷ bytes) → ⊥
 unfolding front_of
@@ -229,12 +228,12 @@ no_run_at_minus n bytes dashed = let e : 0 ≡ suc n = dashed.run in absurd (ome
 
 negative_no_literal : (digits rest : List ℕ) → AreDigits digits → goes_on rest ≡ false → (front others : List ℕ) → 45 ∷ digits ++ rest ≡ front ++ others → is_shaped front ≡ true → ⊥
 negative_no_literal digits rest are stop front others e shaped = elim (begins_year front others shaped) [
-    inl dashed ↦ no_run_at_minus 3 (digits ++ rest) (rw e dashed)
+  | inl dashed ↦ no_run_at_minus 3 (digits ++ rest) (rw e dashed)
   | inr w ↦
       let all : 45 ∷ digits ++ rest ≡ 45 ∷ w.0 ++ others = e ∙ ap (λ (x : List ℕ). x ++ others) w.1 in
       let tail : digits ++ rest ≡ w.0 ++ others = ap (drop 1) all in
       not_dashed 4 digits rest are.each stop (rw tail w.2)
-  ]
+]
 
 pub figures_number : (bytes : List ℕ) → shaped_front bytes ≡ 0 → figures_at bytes ≡ signed_at bytes
 unfolding figures_at
@@ -248,8 +247,13 @@ number_read (d ∷ digits) rest are stop =
     let first = figures_first d (digits ++ rest) (or_left _ _ digit) in
     let none = no_literal (d ∷ digits ++ rest) (number_no_literal (d ∷ digits) rest are stop) in
     let signed : signed_at (d ∷ digits ++ rest) ≡ number_at false (d ∷ digits ++ rest) = rw byte.minus refl in
-    record { first = d; others = digits; splits = refl; no_blank = first.1;
-      read = first.0 ∙ figures_number (d ∷ digits ++ rest) none ∙ signed ∙ number_there false (d ∷ digits) rest are (stops rest stop).0 }
+    record {
+      first = d;
+      others = digits;
+      splits = refl;
+      no_blank = first.1;
+      read = first.0 ∙ figures_number (d ∷ digits ++ rest) none ∙ signed ∙ number_there false (d ∷ digits) rest are (stops rest stop).0;
+    }
 
 pub digits_begin : (digits rest : List ℕ) → list_all (holds classes.Digit) digits ≡ true → 0 < length digits → begins_digit (digits ++ rest) ≡ true
 digits_begin [] rest each some = absurd (omega arith)
@@ -259,8 +263,13 @@ pub negative_read : (digits rest : List ℕ) → AreDigits digits → goes_on re
 negative_read digits rest are stop =
     let first = figures_first 45 (digits ++ rest) (digits_begin digits rest are.each are.some) in
     let none = no_literal (45 ∷ digits ++ rest) (negative_no_literal digits rest are stop) in
-    record { first = 45; others = digits; splits = refl; no_blank = refl;
-      read = first.0 ∙ figures_number (45 ∷ digits ++ rest) none ∙ number_there true digits rest are (stops rest stop).0 }
+    record {
+      first = 45;
+      others = digits;
+      splits = refl;
+      no_blank = refl;
+      read = first.0 ∙ figures_number (45 ∷ digits ++ rest) none ∙ number_there true digits rest are (stops rest stop).0;
+    }
 
 -- moment literals
 
@@ -268,9 +277,9 @@ dashed_begins : (n : ℕ) (bytes : List ℕ) → Dashed (suc n) bytes → begins
 unfolding front_of
 dashed_begins n [] dashed = let e : 0 ≡ suc n = dashed.run in absurd (omega (arith, e))
 dashed_begins n (b ∷ bytes) dashed = elim (cases_Bool (holds classes.Digit b)) [
-    inl digit ↦ digit
+  | inl digit ↦ digit
   | inr other ↦ let e : 0 ≡ suc n = rw other at dashed.run in absurd (omega (arith, e))
-  ]
+]
 
 shaped_figures : (text rest : List ℕ) → is_shaped text ≡ true → begins_with_zone rest ≡ false → 0 < length text → figures_at (text ++ rest) ≡ Some (tokens.Moment (stamp_of text), rest)
 shaped_figures text rest shaped stop some =
@@ -286,12 +295,12 @@ not_shaped h = absurd (false≢true h)
 
 pub shaped_first : (b : ℕ) (more rest : List ℕ) → is_shaped (b ∷ more) ≡ true → begins_number b (more ++ rest) ≡ true
 shaped_first b more rest shaped = elim (begins_year (b ∷ more) rest shaped) [
-    inl dashed ↦ or_left _ _ (dashed_begins 3 (b ∷ more ++ rest) dashed)
+  | inl dashed ↦ or_left _ _ (dashed_begins 3 (b ∷ more ++ rest) dashed)
   | inr w ↦
       let minus : b ≡ 45 = cc in
       let tail : more ≡ w.0 = ap (drop 1) w.1 in
       or_right _ _ (and_from (b == 45) (begins_digit (more ++ rest)) (rw minus refl) (rw tail (dashed_begins 3 (w.0 ++ rest) w.2)))
-  ]
+]
 
 pub moment_read : (text rest : List ℕ) → is_shaped text ≡ true → begins_with_zone rest ≡ false → Reads text (tokens.Moment (stamp_of text)) rest
 moment_read [] rest shaped stop = absurd (not_shaped shaped)

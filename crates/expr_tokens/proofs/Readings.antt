@@ -1,9 +1,9 @@
 -- What is read at the front is the longest token there.
-use Rattle.std.proofs.Common.{◌≡◌, ℕ, zero, suc, ◌+◌, ◌-◌, ◌≤◌, ◌<◌, ℤ, pos, Bool, true, false, cond, ◌&&◌, ◌||◌, ◌⊎◌, inl, inr, List, [], ◌∷◌, ◌++◌, length, take, drop, Option, Some, None, refl, sym, ap, subst, ◌∙◌, append_assoc, arith, length-append, length-drop, length-take-le}
+use Rattle.std.proofs.Common.{◌≡◌, ℕ, suc, ◌+◌, ◌≤◌, ◌<◌, Bool, true, false, cond, ◌&&◌, inl, inr, List, [], ◌∷◌, ◌++◌, length, take, drop, Option, Some, None, refl, sym, ap, subst, ◌∙◌, append_assoc, arith, length-append, length-drop, length-take-le}
 use Rattle.std.specs.Prelude.{nat_le, nat_lt, ◌==◌}
 use Rattle.std.specs.List.{list_all}
 use Rattle.std.proofs.Math.Seq.{take-append_seam}
-use Rattle.std.proofs.lemmas.List.{append-nil, take-append-drop}
+use Rattle.std.proofs.lemmas.List.{take-append-drop}
 use Rattle.std.proofs.lemmas.Bool.{leb-true, and_parts, and_from, or_cases, or_left, or_right, cases_Bool, cases_lt, eqb-true, false_from_ne_true, both_ways, false≢true}
 use Rattle.std.proofs.lemmas.Bool.Decides.{nat_tests}
 use Rattle.moment_text.specs.Literal.{form_of, is_shaped, shaped_front}
@@ -12,14 +12,12 @@ use Rattle.moment_text.proofs.Shapes.{longest_front}
 use Rattle.expr_tokens.specs.declared.class.Class.TheVariants as classes
 use Rattle.expr_tokens.specs.Plain.{Token}
 use Rattle.expr_tokens.specs.Plain as tokens
-use Rattle.expr_tokens.specs.Class.{holds, front_of, behind, passes_first}
-use Rattle.expr_tokens.specs.Names.{word_of}
-use Rattle.expr_tokens.specs.Reading.{Front, begins_digit, begins_number, digits_of, value_from, signed, named, number_at, name_at, quote_at, text_at, sign_of, with_rest, sign_at, signed_at, figures_at, token_at}
-use Rattle.expr_tokens.specs.Stamps.{stamp_of}
-use Rattle.expr_tokens.specs.Longest.{AreDigits, Spells, moment, number, negative, name, text, sign, begins_long_number, IsLongest, IsLongestReading, ReadsLongest, SpellsOne}
+use Rattle.expr_tokens.specs.Class.{holds, front_of, behind}
+use Rattle.expr_tokens.specs.Reading.{Front, begins_digit, begins_number, digits_of, number_at, name_at, quote_at, text_at, sign_of, with_rest, signed_at, figures_at, token_at}
+use Rattle.expr_tokens.specs.Longest.{AreDigits, Spells, moment, number, negative, name, text, sign, begins_long_number, IsLongestReading, ReadsLongest, SpellsOne}
 use Rattle.expr_tokens.proofs.Runs.{run_splits, run_is_longer}
 use Rattle.expr_tokens.proofs.Stamps.{moment_there}
-use Rattle.expr_tokens.proofs.OneToken.{Reads, Dashed, letter_byte, digit_byte, sign_byte, begins_year, figures_first, figures_number, shaped_first, digits_begin, sign_read, name_read, text_read, number_read, negative_read, moment_read}
+use Rattle.expr_tokens.proofs.OneToken.{Reads, letter_byte, digit_byte, sign_byte, begins_year, figures_first, figures_number, shaped_first, digits_begin, sign_read, name_read, text_read, number_read, negative_read, moment_read}
 
 -- the parts of what is found
 
@@ -48,13 +46,13 @@ no_digit_behind b = elim (cases_Bool (b == 45)) [ inl h ↦ rw h refl | inr h �
 -- bytes that spell a token are read as it
 reads_alone : (bytes : List ℕ) (t : Token) → Spells bytes t → Reads bytes t []
 reads_alone bytes t spelled = elim spelled [
-    moment shaped is ↦ rw is (moment_read bytes [] shaped refl)
+  | moment shaped is ↦ rw is (moment_read bytes [] shaped refl)
   | number are is ↦ rw is (number_read bytes [] are refl)
   | negative digits splits are is ↦ rw (splits, is) (negative_read digits [] are refl)
   | name b more splits letter each is ↦ rw (is, splits) (name_read b more [] letter each refl)
   | text quoted splits each short is ↦ rw (splits, is) (text_read quoted [] each short)
   | sign b splits is ↦ rw splits (sign_read b t [] is (no_digit_behind b))
-  ]
+]
 
 same_reading : (bytes : List ℕ) (t u : Token) → Reads bytes t [] → Reads bytes u [] → t ≡ u
 same_reading bytes t u first second =
@@ -85,9 +83,9 @@ module _ (most : ℕ) where
   number_reaches : (minus : Bool) (bytes : List ℕ) → length (behind (holds classes.Digit) bytes) ≤ most → Reaches most (nat_lt 13 (length (digits_of bytes))) (number_at minus bytes)
   unfolding number_at
   number_reaches minus bytes short = elim (cases_Bool (nat_le (length (digits_of bytes)) 13)) [
-      inl fits ↦ rw fits short
+    | inl fits ↦ rw fits short
     | inr long ↦ rw long (grind (arith, nat_tests))
-    ]
+  ]
 
   figures_reach : (b : ℕ) (bytes : List ℕ)
       → (0 < shaped_front (b ∷ bytes) → length (drop (shaped_front (b ∷ bytes)) (b ∷ bytes)) ≤ most)
@@ -95,12 +93,12 @@ module _ (most : ℕ) where
       → Reaches most (begins_long_number b bytes) (figures_at (b ∷ bytes))
   unfolding figures_at
   figures_reach b bytes literal digits = elim (cases_Bool (nat_lt 0 (shaped_front (b ∷ bytes)))) [
-      inl some ↦ rw some (literal (grind (arith, nat_tests)))
+    | inl some ↦ rw some (literal (grind (arith, nat_tests)))
     | inr none ↦ elim (cases_Bool (b == 45)) [
-        inl minus ↦ rw (none, minus) (number_reaches true bytes (rw minus at digits))
+      | inl minus ↦ rw (none, minus) (number_reaches true bytes (rw minus at digits))
       | inr other ↦ rw (none, other) (number_reaches false (b ∷ bytes) (rw other at digits))
-      ]
     ]
+  ]
 
   number_first : (b : ℕ) (bytes : List ℕ) → begins_number b bytes ≡ true → Reaches most (begins_long_number b bytes) (figures_at (b ∷ bytes)) → Reaches most (begins_long_number b bytes) (token_at b bytes)
   number_first b bytes begins reaches = rw (figures_first b bytes begins).0 reaches
@@ -117,7 +115,7 @@ digits_long : (bytes rest : List ℕ) → list_all (holds classes.Digit) bytes �
 digits_long bytes rest each =
     let splits = run_splits (holds classes.Digit) (bytes ++ rest) in
     let total : length bytes + length rest ≡ length (digits_of (bytes ++ rest)) + length (behind (holds classes.Digit) (bytes ++ rest)) =
-        sym (length-append bytes rest) ∙ ap length splits.0 ∙ length-append (digits_of (bytes ++ rest)) (behind (holds classes.Digit) (bytes ++ rest)) in
+    sym (length-append bytes rest) ∙ ap length splits.0 ∙ length-append (digits_of (bytes ++ rest)) (behind (holds classes.Digit) (bytes ++ rest)) in
     omega (arith, total, run_is_longer (holds classes.Digit) bytes rest each)
 
 long_form : (minus absolute : Bool) → 19 ≤ length (form_of minus absolute)
@@ -149,11 +147,11 @@ year_there b bytes some =
     let width : length front ≡ n = length-take-le n (b ∷ bytes) (longest_front (b ∷ bytes)).within in
     record {
       year = elim (begins_year front others shaped) [
-          inl dashed ↦
+        | inl dashed ↦
             let run : length (digits_of (b ∷ bytes)) ≡ 4 = rw whole at dashed.run in
             elim (cases_Bool (b == 45)) [
-              inl minus ↦ absurd (no_digit_run b bytes minus run)
-            | inr other ↦ rw other run
+              | inl minus ↦ absurd (no_digit_run b bytes minus run)
+              | inr other ↦ rw other run
             ]
         | inr w ↦
             let all : b ∷ bytes ≡ 45 ∷ w.0 ++ others = sym whole ∙ ap (λ (x : List ℕ). x ++ others) w.1 in
@@ -161,7 +159,7 @@ year_there b bytes some =
             let tail : bytes ≡ w.0 ++ others = ap (drop 1) all in
             let minus : (b == 45) ≡ true = rw is refl in
             rw (minus, tail) w.2.run
-        ];
+      ];
       long = omega (arith, shape_long front shaped, width);
     }
 
@@ -173,22 +171,22 @@ left_behind n bytes longer others e le =
 
 digits_left : (b : ℕ) (bytes digits others : List ℕ) → cond (b == 45) bytes (b ∷ bytes) ≡ digits ++ others → suc (length digits) ≤ shaped_front (b ∷ bytes) → length (drop (shaped_front (b ∷ bytes)) (b ∷ bytes)) ≤ length others
 digits_left b bytes digits others e le = elim (cases_Bool (b == 45)) [
-    inl minus ↦
+  | inl minus ↦
       let tail : bytes ≡ digits ++ others = rw minus at e in
       left_behind (shaped_front (b ∷ bytes)) (b ∷ bytes) (b ∷ digits) others (ap (λ (x : List ℕ). b ∷ x) tail) le
   | inr other ↦ left_behind (shaped_front (b ∷ bytes)) (b ∷ bytes) digits others (rw other at e) (omega (arith, le))
-  ]
+]
 
 digits_reach : (b : ℕ) (bytes digits others : List ℕ) → cond (b == 45) bytes (b ∷ bytes) ≡ digits ++ others → list_all (holds classes.Digit) digits ≡ true → begins_number b bytes ≡ true
     → Reaches (length others) (begins_long_number b bytes) (token_at b bytes)
 digits_reach b bytes digits others e each begins =
     number_first (length others) b bytes begins (figures_reach (length others) b bytes
-      (λ some.
-        let year = year_there b bytes some in
-        let four : length (digits_of (digits ++ others)) ≡ 4 = rw e at year.year in
-        let within : length digits ≤ 4 = omega (arith, digits_long digits others each, four) in
-        digits_left b bytes digits others e (omega (arith, within, year.long)))
-      (rw e (run_is_longer (holds classes.Digit) digits others each)))
+    (λ some.
+    let year = year_there b bytes some in
+    let four : length (digits_of (digits ++ others)) ≡ 4 = rw e at year.year in
+    let within : length digits ≤ 4 = omega (arith, digits_long digits others each, four) in
+    digits_left b bytes digits others e (omega (arith, within, year.long)))
+    (rw e (run_is_longer (holds classes.Digit) digits others each)))
 
 number_reach : (b : ℕ) (bytes digits others : List ℕ) → b ∷ bytes ≡ digits ++ others → AreDigits digits → Reaches (length others) (begins_long_number b bytes) (token_at b bytes)
 number_reach b bytes [] others e are = absurd (omega (arith, are.some))
@@ -208,13 +206,13 @@ negative_reach b bytes digits others e are =
 
 longest_is_long : (bytes longer others : List ℕ) → bytes ≡ longer ++ others → is_shaped longer ≡ true → length longer ≤ shaped_front bytes
 longest_is_long bytes longer others e shaped = elim (cases_lt (shaped_front bytes) (length longer)) [
-    inl less ↦
+  | inl less ↦
       let within : length longer ≤ length bytes = omega (arith, ap length e, length-append longer others) in
       let no : is_shaped (take (length longer) bytes) ≡ false = (longest_front bytes).longest (length longer) less within in
       let same : take (length longer) bytes ≡ longer = rw e (take-append_seam longer others) in
       absurd (both_ways (is_shaped longer) (rw same at no) shaped)
   | inr le ↦ le
-  ]
+]
 
 moment_reach : (b : ℕ) (bytes longer others : List ℕ) → b ∷ bytes ≡ longer ++ others → is_shaped longer ≡ true → Reaches (length others) (begins_long_number b bytes) (token_at b bytes)
 moment_reach b bytes [] others e shaped = absurd (omega (arith, shape_long [] shaped))
@@ -233,15 +231,15 @@ name_reach b bytes more others e letter each =
 
 sign_reach : (b : ℕ) (bytes : List ℕ) (t : Token) → sign_of b ≡ Some t → Reaches (length bytes) (begins_long_number b bytes) (token_at b bytes)
 sign_reach b bytes t is = elim (cases_Bool (b == 45 && begins_digit bytes)) [
-    inl begins ↦
+  | inl begins ↦
       let parts = and_parts (b == 45) (begins_digit bytes) begins in
       digits_reach b bytes [] bytes (rw parts.0 refl) refl (or_right _ _ begins)
   | inr stop ↦ read_reaches b bytes (b ∷ []) bytes t refl (sign_read b t bytes is stop)
-  ]
+]
 
 reaches : (b : ℕ) (bytes longer others : List ℕ) (t : Token) → b ∷ bytes ≡ longer ++ others → Spells longer t → Reaches (length others) (begins_long_number b bytes) (token_at b bytes)
 reaches b bytes longer others t e spelled = elim spelled [
-    moment shaped is ↦ moment_reach b bytes longer others e shaped
+  | moment shaped is ↦ moment_reach b bytes longer others e shaped
   | number are is ↦ number_reach b bytes longer others e are
   | negative digits splits are is ↦ negative_reach b bytes digits others (rw splits at e) are
   | name c more splits letter each is ↦
@@ -254,7 +252,7 @@ reaches b bytes longer others t e spelled = elim spelled [
       let same : b ≡ c = cc in
       let tail : bytes ≡ others = ap (drop 1) all in
       rw (← tail) (sign_reach b bytes t (rw same is))
-  ]
+]
 
 -- what is read is spelled by the bytes before the rest
 
@@ -288,22 +286,22 @@ quote_spelled : (quoted after : List ℕ) → list_all (holds classes.Quoted) qu
 unfolding quote_at
 quote_spelled quoted [] each short = tt
 quote_spelled quoted (c ∷ after) each short = elim (cases_Bool (c == 34)) [
-    inl quote ↦ rw quote (record {
-      front = 34 ∷ quoted ++ 34 ∷ [];
-      splits = rw (eqb-true c 34 quote, append_assoc) refl;
-      spelled = text quoted refl each short refl;
-      short = not_long 34 (quoted ++ c ∷ after) refl refl;
-    })
+  | inl quote ↦ rw quote (record {
+    front = 34 ∷ quoted ++ 34 ∷ [];
+    splits = rw (eqb-true c 34 quote, append_assoc) refl;
+    spelled = text quoted refl each short refl;
+    short = not_long 34 (quoted ++ c ∷ after) refl refl;
+  })
   | inr other ↦ rw other tt
-  ]
+]
 
 text_spelled : (bytes : List ℕ) → AreSpelled 34 bytes (text_at bytes)
 unfolding text_at
 text_spelled bytes =
     let splits = run_splits (holds classes.Quoted) bytes in
     elim (cases_Bool (nat_le (length (front_of (holds classes.Quoted) bytes)) 1024)) [
-      inl fits ↦ rw fits (rw (← splits.0) at (quote_spelled (front_of (holds classes.Quoted) bytes) (behind (holds classes.Quoted) bytes) splits.1 (leb-true _ 1024 fits)))
-    | inr long ↦ rw long tt
+      | inl fits ↦ rw fits (rw (← splits.0) at (quote_spelled (front_of (holds classes.Quoted) bytes) (behind (holds classes.Quoted) bytes) splits.1 (leb-true _ 1024 fits)))
+      | inr long ↦ rw long tt
     ]
 
 sign_spelled : (b : ℕ) (bytes : List ℕ) (read : Option Token) → sign_of b ≡ read → begins_number b bytes ≡ false → AreSpelled b bytes (with_rest bytes read)
@@ -315,11 +313,11 @@ sign_spelled b bytes (Some t) is stop =
       splits = refl;
       spelled = sign b refl is;
       short = elim (cases_Bool (b == 45)) [
-          inl minus ↦
+        | inl minus ↦
             let none : begins_digit bytes ≡ false = false_from_ne_true (begins_digit bytes) (λ h. both_ways (begins_number b bytes) stop (or_right (holds classes.Digit b) (b == 45 && begins_digit bytes) (and_from (b == 45) (begins_digit bytes) minus h))) in
             rw (minus, no_digits bytes none) refl
         | inr other ↦ not_long b bytes other byte.digit
-        ];
+      ];
     }
 
 some_digits : (bytes : List ℕ) → begins_digit bytes ≡ true → 0 < length (digits_of bytes)
@@ -336,34 +334,34 @@ fits_not_long n fits = grind (arith, nat_tests)
 number_spelled : (b : ℕ) (bytes : List ℕ) → (b == 45) ≡ false → holds classes.Digit b ≡ true → AreSpelled b bytes (number_at false (b ∷ bytes))
 unfolding number_at
 number_spelled b bytes other digit = elim (cases_Bool (nat_le (length (digits_of (b ∷ bytes))) 13)) [
-    inl fits ↦ rw fits (record {
-      front = digits_of (b ∷ bytes);
-      splits = (run_splits (holds classes.Digit) (b ∷ bytes)).0;
-      spelled = number (are_digits (b ∷ bytes) digit fits) refl;
-      short = rw other (fits_not_long (length (digits_of (b ∷ bytes))) fits);
-    })
+  | inl fits ↦ rw fits (record {
+    front = digits_of (b ∷ bytes);
+    splits = (run_splits (holds classes.Digit) (b ∷ bytes)).0;
+    spelled = number (are_digits (b ∷ bytes) digit fits) refl;
+    short = rw other (fits_not_long (length (digits_of (b ∷ bytes))) fits);
+  })
   | inr long ↦ rw long tt
-  ]
+]
 
 negative_spelled : (bytes : List ℕ) → begins_digit bytes ≡ true → AreSpelled 45 bytes (number_at true bytes)
 unfolding number_at
 negative_spelled bytes digit = elim (cases_Bool (nat_le (length (digits_of bytes)) 13)) [
-    inl fits ↦ rw fits (record {
-      front = 45 ∷ digits_of bytes;
-      splits = ap (λ (x : List ℕ). 45 ∷ x) (run_splits (holds classes.Digit) bytes).0;
-      spelled = negative (digits_of bytes) refl (are_digits bytes digit fits) refl;
-      short = fits_not_long (length (digits_of bytes)) fits;
-    })
+  | inl fits ↦ rw fits (record {
+    front = 45 ∷ digits_of bytes;
+    splits = ap (λ (x : List ℕ). 45 ∷ x) (run_splits (holds classes.Digit) bytes).0;
+    spelled = negative (digits_of bytes) refl (are_digits bytes digit fits) refl;
+    short = fits_not_long (length (digits_of bytes)) fits;
+  })
   | inr long ↦ rw long tt
-  ]
+]
 
 signed_spelled : (b : ℕ) (bytes : List ℕ) → begins_number b bytes ≡ true → AreSpelled b bytes (signed_at (b ∷ bytes))
 signed_spelled b bytes begins = elim (or_cases (holds classes.Digit b) (b == 45 && begins_digit bytes) begins) [
-    inl digit ↦ let other = (digit_byte b digit).minus in rw other (number_spelled b bytes other digit)
+  | inl digit ↦ let other = (digit_byte b digit).minus in rw other (number_spelled b bytes other digit)
   | inr both ↦
       let parts = and_parts (b == 45) (begins_digit bytes) both in
       subst (λ (k : ℕ). AreSpelled k bytes (signed_at (k ∷ bytes))) (sym (eqb-true b 45 parts.0)) (negative_spelled bytes parts.1)
-  ]
+]
 
 literal_spelled : (b : ℕ) (bytes : List ℕ) → 0 < shaped_front (b ∷ bytes) → AreSpelled b bytes (figures_at (b ∷ bytes))
 literal_spelled b bytes some = rw (moment_there (b ∷ bytes) some) (record {
@@ -375,22 +373,22 @@ literal_spelled b bytes some = rw (moment_there (b ∷ bytes) some) (record {
 
 figures_spelled : (b : ℕ) (bytes : List ℕ) → begins_number b bytes ≡ true → AreSpelled b bytes (figures_at (b ∷ bytes))
 figures_spelled b bytes begins = elim (cases_lt 0 (shaped_front (b ∷ bytes))) [
-    inl some ↦ literal_spelled b bytes some
+  | inl some ↦ literal_spelled b bytes some
   | inr le ↦ rw (figures_number (b ∷ bytes) (omega (arith, le))) (signed_spelled b bytes begins)
-  ]
+]
 
 spelled_there : (b : ℕ) (bytes : List ℕ) → AreSpelled b bytes (token_at b bytes)
 unfolding token_at
 spelled_there b bytes = elim (cases_Bool (holds classes.Letter b)) [
-    inl letter ↦ rw letter (name_spelled b bytes letter)
+  | inl letter ↦ rw letter (name_spelled b bytes letter)
   | inr other ↦ elim (cases_Bool (b == 34)) [
-      inl quote ↦ rw (other, quote) (subst (λ (k : ℕ). AreSpelled k bytes (text_at bytes)) (sym (eqb-true b 34 quote)) (text_spelled bytes))
+    | inl quote ↦ rw (other, quote) (subst (λ (k : ℕ). AreSpelled k bytes (text_at bytes)) (sym (eqb-true b 34 quote)) (text_spelled bytes))
     | inr more ↦ elim (cases_Bool (begins_number b bytes)) [
-        inl begins ↦ rw (other, more, begins) (figures_spelled b bytes begins)
+      | inl begins ↦ rw (other, more, begins) (figures_spelled b bytes begins)
       | inr stop ↦ rw (other, more, stop) (sign_spelled b bytes (sign_of b) refl stop)
-      ]
     ]
   ]
+]
 
 -- both together
 
@@ -400,13 +398,15 @@ longer_front whole front rest longer others e f le = omega (arith, ap length e, 
 both_parts : (b : ℕ) (bytes : List ℕ) (read : Front) → AreSpelled b bytes read
     → ((longer others : List ℕ) (t : Token) → b ∷ bytes ≡ longer ++ others → Spells longer t → Reaches (length others) (begins_long_number b bytes) read) → IsLongestReading b bytes read
 both_parts b bytes None spelled reach = λ front rest t e spells. reach front rest t e spells
-both_parts b bytes (Some x) spelled reach =
-    (record {
-      front = spelled.front;
-      splits = spelled.splits;
-      spelled = spelled.spelled;
-      longest = λ longer others u e spells. longer_front (b ∷ bytes) spelled.front x.1 longer others spelled.splits e (reach longer others u e spells);
-    }, spelled.short)
+both_parts b bytes (Some x) spelled reach = (
+  record {
+    front = spelled.front;
+    splits = spelled.splits;
+    spelled = spelled.spelled;
+    longest = λ longer others u e spells. longer_front (b ∷ bytes) spelled.front x.1 longer others spelled.splits e (reach longer others u e spells);
+  },
+  spelled.short,
+)
 
 pub reads_longest : ReadsLongest
 reads_longest b bytes = both_parts b bytes (token_at b bytes) (spelled_there b bytes) (λ longer others t e spells. reaches b bytes longer others t e spells)

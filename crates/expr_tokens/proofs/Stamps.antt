@@ -1,15 +1,14 @@
 -- The search through the calendar range finds the moment that a literal names.
-use Rattle.std.proofs.Common.{◌≡◌, ℕ, zero, suc, ◌<◌, ◌≤◌, ◌⊎◌, inl, inr, ℤ, pos, ◌+ℤ◌, ◌-ℤ◌, ◌≤ℤ◌, Bool, true, false, cond, List, [], ◌∷◌, length, take, drop, Some, None, Option, refl, sym, ap, subst, ◌∙◌, arith, rules}
+use Rattle.std.proofs.Common.{◌≡◌, ℕ, zero, suc, ◌<◌, ◌≤◌, ◌⊎◌, inl, inr, ℤ, pos, ◌+ℤ◌, ◌-ℤ◌, Bool, true, false, cond, List, ◌∷◌, take, drop, Some, None, Option, refl, sym, ap, subst, ◌∙◌, arith}
 use Rattle.std.specs.Prelude.{find, IfSome, unsigned_abs, nat_lt}
 use Rattle.std.specs.Bool.{Decides}
-use Rattle.std.specs.Str.{bytes_eq}
 use Rattle.std.proofs.lemmas.Bool.Decides.{nat_tests}
 use Rattle.std.proofs.lemmas.Slice.Eq.{bytes_eq-Decides}
 use Rattle.std.proofs.lemmas.Int.{ints}
 use Rattle.std.proofs.lemmas.Bool.{cases_lt}
 use Rattle.moment_core.specs.Line.{IsCalendarMoment, IsWorkingMoment}
 use Rattle.moment_core.specs.declared.line.Stamp.{Stamp}
-use Rattle.moment_core.specs.declared.line.TheConstants.{LOW, HIGH, REACH, WIDTH}
+use Rattle.moment_core.specs.declared.line.TheConstants.{LOW, WIDTH}
 use Rattle.moment_text.specs.Laws.{LiteralsTellMomentsApart}
 use Rattle.moment_text.specs.Literal.{Names, literal_of, shaped_front}
 use Rattle.expr_tokens.specs.Plain.{Moment}
@@ -55,19 +54,19 @@ module _ (text : List ℕ) where
   found_is_named zero s le found = absurd cc
   found_is_named (suc n) s le found =
       elim (found_first (is_literal text (stamp_after n false)) (stamp_after n false) s (find (is_literal text) (stamp_after n true ∷ stamps n)) found) [
-        inl w ↦ subst (IsNamed text) w.1 (named_after n false (omega arith) w.0)
-      | inr more ↦ elim (found_first (is_literal text (stamp_after n true)) (stamp_after n true) s (find (is_literal text) (stamps n)) more) [
-          inl w ↦ subst (IsNamed text) w.1 (named_after n true (omega arith) w.0)
-        | inr more ↦ found_is_named n s (omega arith) more
+        | inl w ↦ subst (IsNamed text) w.1 (named_after n false (omega arith) w.0)
+        | inr more ↦ elim (found_first (is_literal text (stamp_after n true)) (stamp_after n true) s (find (is_literal text) (stamps n)) more) [
+          | inl w ↦ subst (IsNamed text) w.1 (named_after n true (omega arith) w.0)
+          | inr more ↦ found_is_named n s (omega arith) more
         ]
       ]
 
   below : (n k : ℕ) (absolute : Bool) → k < suc n → is_literal text (stamp_after k absolute) ≡ true → is_literal text (stamp_after n false) ≡ false → is_literal text (stamp_after n true) ≡ false → k < n
   below n k absolute lt pass not_floating not_absolute =
       let same : k ≡ n → ⊥ = λ e. elim absolute as (λ (b : Bool). is_literal text (stamp_after k b) ≡ true → ⊥) [
-          true ↦ λ h. absurd (true_false (sym h ∙ ap (λ (m : ℕ). is_literal text (stamp_after m true)) e ∙ not_absolute))
+        | true ↦ λ h. absurd (true_false (sym h ∙ ap (λ (m : ℕ). is_literal text (stamp_after m true)) e ∙ not_absolute))
         | false ↦ λ h. absurd (true_false (sym h ∙ ap (λ (m : ℕ). is_literal text (stamp_after m false)) e ∙ not_floating))
-        ] pass in
+      ] pass in
       elim (cases_lt k n) [ inl lt ↦ lt | inr le ↦ absurd (same (omega (arith, le, lt))) ]
 
   -- where a moment has the literal, one is found
@@ -76,7 +75,7 @@ module _ (text : List ℕ) where
   found_some zero k absolute lt pass = absurd (omega arith)
   found_some (suc n) k absolute lt pass =
       let here : (b : Bool) (x : Stamp) (others : Option Stamp) → (b ≡ false → (s : Stamp) × (others ≡ Some s)) → (s : Stamp) × (cond b (Some x) others ≡ Some s) =
-          λ b x others more. elim b as (λ (v : Bool). (v ≡ false → (s : Stamp) × (others ≡ Some s)) → (s : Stamp) × (cond v (Some x) others ≡ Some s)) [ true ↦ λ _. (x, refl) | false ↦ λ more. more refl ] more in
+      λ b x others more. elim b as (λ (v : Bool). (v ≡ false → (s : Stamp) × (others ≡ Some s)) → (s : Stamp) × (cond v (Some x) others ≡ Some s)) [ true ↦ λ _. (x, refl) | false ↦ λ more. more refl ] more in
       here (is_literal text (stamp_after n false)) (stamp_after n false) (find (is_literal text) (stamp_after n true ∷ stamps n)) (λ not_floating.
       here (is_literal text (stamp_after n true)) (stamp_after n true) (find (is_literal text) (stamps n)) (λ not_absolute.
       found_some n k absolute (below n k absolute lt pass not_floating not_absolute) pass))

@@ -1,6 +1,6 @@
 -- Bytes that are read as given tokens, and what may stand behind them.
 use Rattle.std.proofs.Common.{◌≡◌, ℕ, zero, suc, ◌^◌, ◌≤◌, ◌<◌, ℤ, pos, negsuc, Bool, true, false, ◌&&◌, List, [], ◌∷◌, ◌++◌, length, Some, Result, Ok, Err, refl, sym, ap, ◌∙◌, append_assoc, arith, rules, length-append}
-use Rattle.std.specs.Prelude.{codes, unsigned_abs, nat_le, ◌==◌}
+use Rattle.std.specs.Prelude.{codes, unsigned_abs, ◌==◌}
 use Rattle.std.specs.Fmt.{decimal, signed_decimal}
 use Rattle.std.specs.List.{list_all}
 use Rattle.std.proofs.lemmas.Str.Parse.{numerals_by_fold, IsNumeralModel}

@@ -1,5 +1,5 @@
 -- The moment that a literal names.
-use Rattle.std.specs.Prelude.{ℕ, zero, suc, ℤ, pos, ◌+ℤ◌, Bool, true, false, List, [], ◌∷◌, find, Option}
+use Rattle.std.specs.Prelude.{ℕ, zero, suc, pos, ◌+ℤ◌, Bool, true, false, List, [], ◌∷◌, find, Option}
 use Rattle.std.specs.Str.{bytes_eq}
 use Rattle.moment_core.specs.declared.line.Stamp.{Stamp}
 use Rattle.moment_core.specs.declared.line.TheConstants.{LOW, WIDTH}

@@ -5,5 +5,4 @@ ghost use Rattle.expr_tokens.specs.Longest.{ReadsLongest, SpellsOne};
 pub fn token_laws()
     ensures longest { ReadsLongest }
     ensures one { SpellsOne }
-{
-}
+{}

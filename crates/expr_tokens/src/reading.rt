@@ -108,7 +108,12 @@ fn is_digit_first(bytes: &[u8]) -> bool
 
 /// A moment literal, or a number.
 #[tactic(auto, unfolding(crate::specs::Reading::figures_at))]
-fn figures<'a>(place: usize, b: u8, bytes: &'a [u8], rest: &'a [u8]) -> Option<(Token<'a>, &'a [u8])>
+fn figures<'a>(
+    place: usize,
+    b: u8,
+    bytes: &'a [u8],
+    rest: &'a [u8],
+) -> Option<(Token<'a>, &'a [u8])>
     requires bytes { bytes.now ≡ b ∷ rest.now }
     requires begins { begins_number b rest.now ≡ true }
     ensures read { GivesFront result (figures_at bytes.now) }

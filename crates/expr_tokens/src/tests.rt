@@ -41,14 +41,29 @@ fn texts_are_read_as_these_tokens(rt: HostRuntime) -> Result<(), Fail> {
         ("2024-01-01", &[('#', 2024), ('#', -1), ('#', -1)]),
         ("2024-01-01T00:00:00Z", &[('Z', 1_704_067_200)]),
         ("2024-01-01T00:00:00", &[('T', 1_704_067_200)]),
-        ("2024-01-01T00:00:00Zoned", &[('Z', 1_704_067_200), ('n', 4)]),
+        (
+            "2024-01-01T00:00:00Zoned",
+            &[('Z', 1_704_067_200), ('n', 4)],
+        ),
         ("-0044-03-15T06:07:08Z", &[('Z', -63_549_337_972)]),
         ("2023-02-29T00:00:00", &[('x', 0)]),
         (" {-9901-12-31T23:59:59}", &[('{', 0), ('x', 2), ('}', 0)]),
-        ("days=1,2", &[('w', 0), ('=', 0), ('#', 1), (',', 0), ('#', 2)]),
-        ("dayss day days_ days1 days", &[('n', 5), ('n', 3), ('n', 5), ('n', 5), ('w', 22)]),
-        ("a1 & \"UTC0\"|\"\";", &[('n', 2), ('&', 0), ('"', 4), ('|', 0), ('"', 0), (';', 0)]),
-        ("!(span())", &[('!', 0), ('(', 0), ('w', 2), ('(', 0), (')', 0), (')', 0)]),
+        (
+            "days=1,2",
+            &[('w', 0), ('=', 0), ('#', 1), (',', 0), ('#', 2)],
+        ),
+        (
+            "dayss day days_ days1 days",
+            &[('n', 5), ('n', 3), ('n', 5), ('n', 5), ('w', 22)],
+        ),
+        (
+            "a1 & \"UTC0\"|\"\";",
+            &[('n', 2), ('&', 0), ('"', 4), ('|', 0), ('"', 0), (';', 0)],
+        ),
+        (
+            "!(span())",
+            &[('!', 0), ('(', 0), ('w', 2), ('(', 0), (')', 0), (')', 0)],
+        ),
     ];
     for (text, wanted) in rows {
         let found = tokens(rt.alloc(), text.as_bytes())?;
@@ -77,7 +92,11 @@ fn no_token_begins_at_these_bytes(rt: HostRuntime) {
         ("2024-01-01T00:00:00z#", 20),
         ("days = 1 # 2 #", 9),
     ] {
-        assert_eq!(rt; tokens(rt.alloc(), text.as_bytes()).err(), Some(TokenFault::Token { byte }), "{text}");
+        assert_eq!(rt;
+            tokens(rt.alloc(), text.as_bytes()).err(),
+            Some(TokenFault::Token { byte }),
+            "{text}"
+        );
     }
 }
 
@@ -90,7 +109,11 @@ fn one_byte_alone_is_a_sign_a_letter_a_digit_or_a_blank(rt: HostRuntime) {
             b' ' | b'\t' | b'\n' | b'\r' => Ok(0),
             _ => Err(TokenFault::Token { byte: 0 }),
         };
-        assert_eq!(rt; tokens(rt.alloc(), &[b]).map(|found| found.len()), wanted, "{b}");
+        assert_eq!(rt;
+            tokens(rt.alloc(), &[b]).map(|found| found.len()),
+            wanted,
+            "{b}"
+        );
     }
 }
 
@@ -100,7 +123,11 @@ fn strings_have_at_most_1024_bytes_and_blanks_any_number(rt: HostRuntime) -> Res
         let mut text = vec![in rt.alloc(); b'a'; length]?;
         text.insert(0, b'"')?;
         text.push(b'"')?;
-        assert_eq!(rt; tokens(rt.alloc(), &text).map(|found| found.len()), wanted, "{length}");
+        assert_eq!(rt;
+            tokens(rt.alloc(), &text).map(|found| found.len()),
+            wanted,
+            "{length}"
+        );
     }
     let blanks = vec![in rt.alloc(); b' '; 70_000]?;
     assert_eq!(rt; tokens(rt.alloc(), &blanks)?.len(), 0);
@@ -142,7 +169,9 @@ fn each_name_of_the_grammar_is_its_word(rt: HostRuntime) -> Result<(), Fail> {
         ("week_start", Word::WeekStart),
     ] {
         let found = tokens(rt.alloc(), name.as_bytes())?;
-        assert!(rt; matches!(found.as_slice(), [Token::Word(w, 0)] if *w == word), "{name}");
+        assert_eq!(rt; found.len(), 1, "{name}");
+        let token = found[0];
+        assert!(rt; matches!(token, Token::Word(w, 0) if w == word), "{name}");
     }
     Ok(())
 }

@@ -1,4 +1,4 @@
-use Rattle.std.proofs.Common.{◌≡◌, ◌+◌, ◌-◌, ◌≤◌, suc, [], sym, arith, length}
+use Rattle.std.proofs.Common.{◌≡◌, ◌+◌, ◌-◌, suc, [], sym, arith, length}
 use Rattle.std.proofs.lemmas.List.{nil_from_length}
 use Rattle.expr_tokens.specs.Reading.{LeavesAt}
 use Rattle.expr_tokens.proofs.Lexing.{starts_kept, past_blank, past_token, no_token_kept, ends_kept, found_alone}
