@@ -28,7 +28,8 @@ fn words_of(rt: &HostRuntime) -> io::Result<Vec<String>> {
     Ok(words)
 }
 
-/// Answers the query over the standard streams. Words that are no text are refused as wrong words are.
+/// Answers the query over the standard streams. Words that are no text are refused as wrong words are, and without
+/// memory for them the status is 6.
 fn answer<L: Ledger>(rt: &HostRuntime, blank: Blank) -> u8
     requires name { blank.name ≡ L.name }
     requires parts { blank.parts ≡ L.parts }
@@ -37,8 +38,10 @@ fn answer<L: Ledger>(rt: &HostRuntime, blank: Blank) -> u8
     let alloc = rt.alloc();
     let mut source = StdSource::new(rt.stdin());
     let mut sink = StdSink::new(rt.stdout());
-    let Ok(words) = words_of(rt) else {
-        return writing::refuse(&mut sink);
+    let words = match words_of(rt) {
+        Ok(words) => words,
+        Err(e) if e.kind() == io::ErrorKind::OutOfMemory => return 6,
+        Err(_) => return writing::refuse(&mut sink),
     };
     let book = Book::empty(alloc);
     let mut steps = Steps::<L>::new(blank);
