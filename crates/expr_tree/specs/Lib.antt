@@ -1,0 +1,4 @@
+pub mod Members
+pub mod Sorts
+pub mod Tree
+pub mod WellFormed

@@ -1,0 +1,121 @@
+-- The kind, the clock and the size of a tree, and the first fault that keeps it from having them.
+use Rattle.std.specs.Prelude.{ℕ, ◌+◌, ◌*◌, ◌<◌, max, Bool, true, false, nat_lt, List, [], ◌∷◌, Option, Some, None, Result, Ok, Err, if◌then◌else◌, ℤ, pos, int_lt}
+use Rattle.moment_core.specs.declared.line.Clock.{Clock}
+use Rattle.moment_core.specs.declared.line.Clock.TheVariants.{Any, Floating, Absolute}
+use Rattle.moment_core.specs.declared.line.Stamp.{Stamp}
+use Rattle.moment_core.specs.declared.line.TheConstants.{REACH}
+use Rattle.expr_tree.specs.Tree.{Tree, Empty, Listed, Spanned, Union, Meet, Minus, Not}
+use Rattle.expr_tree.specs.declared.tree.Kind.{Kind}
+use Rattle.expr_tree.specs.declared.tree.Kind.TheVariants.{Moments, Spans}
+use Rattle.expr_tree.specs.declared.sorting.Judged.{Judged}
+use Rattle.expr_tree.specs.declared.sorting.Sort.{Sort}
+use Rattle.expr_tree.specs.declared.sorting.SortFault.{SortFault}
+use Rattle.expr_tree.specs.declared.sorting.SortFault.TheVariants as faults
+
+-- how many nodes a tree has, and the longest path from its root
+abbrev pub nodes_of : Tree → ℕ
+nodes_of Empty = 1
+nodes_of (Listed stamps) = 1
+nodes_of (Spanned bounds low high) = 1
+nodes_of (Union a b) = 1 + nodes_of a + nodes_of b
+nodes_of (Meet a b) = 1 + nodes_of a + nodes_of b
+nodes_of (Minus a b) = 1 + nodes_of a + nodes_of b
+nodes_of (Not a) = 1 + nodes_of a
+
+abbrev pub depth_of : Tree → ℕ
+depth_of Empty = 1
+depth_of (Listed stamps) = 1
+depth_of (Spanned bounds low high) = 1
+depth_of (Union a b) = 1 + max (depth_of a) (depth_of b)
+depth_of (Meet a b) = 1 + max (depth_of a) (depth_of b)
+depth_of (Minus a b) = 1 + max (depth_of a) (depth_of b)
+depth_of (Not a) = 1 + depth_of a
+
+-- how far membership at a position looks from there, in seconds, along some path
+abbrev pub reach_of : Tree → ℕ
+reach_of Empty = 0
+reach_of (Listed stamps) = 0
+reach_of (Spanned bounds low high) = 0
+reach_of (Union a b) = max (reach_of a) (reach_of b)
+reach_of (Meet a b) = max (reach_of a) (reach_of b)
+reach_of (Minus a b) = max (reach_of a) (reach_of b)
+reach_of (Not a) = reach_of a
+
+-- the one clock of both, any giving way; none where two decided clocks differ
+abbrev pub one_clock : Clock → Clock → Option Clock
+one_clock Any b = Some b
+one_clock a Any = Some a
+one_clock Floating Floating = Some Floating
+one_clock Absolute Absolute = Some Absolute
+one_clock a b = None
+
+abbrev pub clock_of_stamp : Stamp → Clock
+clock_of_stamp stamp = if stamp.absolute then Absolute else Floating
+
+-- the one clock of both, if there is one of the first
+abbrev pub one_clock_if : Option Clock → Clock → Option Clock
+one_clock_if None b = None
+one_clock_if (Some a) b = one_clock a b
+
+-- the one clock of a clock and of the moments
+abbrev pub clock_with : Option Clock → List Stamp → Option Clock
+clock_with clock [] = clock
+clock_with clock (stamp ∷ stamps) = clock_with (one_clock_if clock (clock_of_stamp stamp)) stamps
+
+-- the one clock of the moments, any where there are none
+abbrev pub clock_of_stamps : List Stamp → Option Clock
+clock_of_stamps stamps = clock_with (Some Any) stamps
+
+-- a set of moments and spans is one of spans
+abbrev pub either_kind : Kind → Kind → Kind
+either_kind Moments Moments = Moments
+either_kind a b = Spans
+
+-- what both sets have is moments where one of them is
+abbrev pub both_kind : Kind → Kind → Kind
+both_kind Spans Spans = Spans
+both_kind a b = Moments
+
+abbrev pub with_clock : Kind → Option Clock → Result Judged SortFault
+with_clock kind (Some clock) = Ok (record { kind = kind; clock = clock })
+with_clock kind None = Err faults.Clock
+
+-- the kind and the clock of what joins two sets, of which the first one's fault comes first
+abbrev pub join_judged : (Kind → Kind → Kind) → Result Judged SortFault → Result Judged SortFault → Result Judged SortFault
+join_judged kind (Err fault) b = Err fault
+join_judged kind (Ok a) (Err fault) = Err fault
+join_judged kind (Ok a) (Ok b) = with_clock (kind a.kind b.kind) (one_clock a.clock b.clock)
+
+abbrev pub invert_judged : Result Judged SortFault → Result Judged SortFault
+invert_judged (Err fault) = Err fault
+invert_judged (Ok a) = Ok (record { kind = Spans; clock = a.clock })
+
+-- the kind and the clock of a tree, or the fault of the first node that has one: children first, left before right
+abbrev pub judge : Tree → Result Judged SortFault
+judge Empty = Ok (record { kind = Moments; clock = Any })
+judge (Listed stamps) = with_clock Moments (clock_of_stamps stamps)
+judge (Spanned bounds low high) = with_clock Spans (one_clock low high)
+judge (Union a b) = join_judged either_kind (judge a) (judge b)
+judge (Meet a b) = join_judged both_kind (judge a) (judge b)
+judge (Minus a b) = join_judged (λ x y. x) (judge a) (judge b)
+judge (Not a) = invert_judged (judge a)
+
+-- the most nodes that a tree may have, and the most that a path from its root may have
+abbrev pub node_limit : ℕ
+node_limit = 1024
+
+abbrev pub path_limit : ℕ
+path_limit = 128
+
+abbrev pub sort_with : Tree → Result Judged SortFault → Result Sort SortFault
+sort_with t (Err fault) = Err fault
+sort_with t (Ok judged) =
+    if int_lt REACH (pos (reach_of t)) then Err faults.Reach
+    else Ok (record { kind = judged.kind; clock = judged.clock; reach = pos (reach_of t); depth = depth_of t; nodes = nodes_of t })
+
+-- the sort, or the first fault: too many nodes, too deep, a node's own, too far
+abbrev pub sort_of_tree : Tree → Result Sort SortFault
+sort_of_tree t =
+    if nat_lt node_limit (nodes_of t) then Err faults.Nodes
+    else if nat_lt path_limit (depth_of t) then Err faults.Depth
+    else sort_with t (judge t)

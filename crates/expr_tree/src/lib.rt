@@ -1,0 +1,14 @@
+//! Trees of sets: what a set is made of, and whether its parts fit together.
+#![tactic(auto)]
+
+mod laws;
+mod lists;
+mod sorting;
+#[cfg(test)]
+mod tests;
+mod tree;
+
+pub use laws::tree_laws;
+pub use lists::{Name, Stamps};
+pub use sorting::{Sort, SortFault, sort_of};
+pub use tree::{Expr, Kind, Program, Shown};

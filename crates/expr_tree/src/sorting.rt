@@ -1,0 +1,214 @@
+ghost use Rattle.std.specs.Prelude.{◌≡◌, ◌<◌, ◌≤◌, ◌^◌, Some, None, nat_le, pos, if◌then◌else◌};
+ghost use Rattle.expr_tree.specs.Sorts.{both_kind, clock_of_stamp, clock_of_stamps, depth_of, either_kind, judge, nodes_of, one_clock, reach_of, sort_of_tree, with_clock};
+ghost use Rattle.expr_tree.specs.Tree.{tree_of};
+
+use crate::tree::{Expr, Kind};
+use moment_core::{Clock, REACH, Stamp};
+use std::cmp::max;
+use stored_pair::Book;
+use thiserror::Error;
+
+/// The kind and the clock of a set, how far it looks, and its size.
+#[derive(Clone, Copy, Debug, PartialEq, Eq)]
+pub struct Sort {
+    pub kind: Kind,
+    pub clock: Clock,
+    /// How many seconds from a position its membership may look.
+    pub reach: i64,
+    /// The nodes of the longest path from the root.
+    pub depth: u32,
+    /// The nodes of the tree.
+    pub nodes: u32,
+}
+
+/// Why a tree has no sort.
+#[derive(Clone, Copy, Debug, PartialEq, Eq, Error)]
+pub enum SortFault {
+    #[error("more than 1,024 nodes")]
+    Nodes,
+    #[error("a path of more than 128 nodes")]
+    Depth,
+    #[error("no entry of the book has the name")]
+    Event,
+    #[error("spans where moments are needed")]
+    Kind,
+    #[error("floating and absolute moments in one set")]
+    Clock,
+    #[error("shifts and durations that reach too far")]
+    Reach,
+}
+
+/// The most nodes that a tree may have.
+const MAX_NODES: u32 = 1024;
+
+/// The most nodes that a path from the root may have.
+const MAX_DEPTH: u32 = 128;
+
+/// The kind and the clock of a set.
+#[derive(Clone, Copy, Debug)]
+struct Judged {
+    kind: Kind,
+    clock: Clock,
+}
+
+/// The sort of a set, or the first fault of this order: too many nodes; a path of too many; then the fault of the first node
+/// that has one, children first, left before right; then shifts and durations that reach too far.
+pub fn sort_of(e: &Expr, _book: &Book) -> Result<Sort, SortFault>
+    ensures { result ≡ sort_of_tree (tree_of e.now) }
+{
+    let nodes = nodes_within(e, MAX_NODES).ok_or(SortFault::Nodes)?;
+    let depth = depth_within(e, MAX_DEPTH).ok_or(SortFault::Depth)?;
+    let judged = judge_tree(e)?;
+    let reach = reach(e);
+    if reach > REACH {
+        return Err(SortFault::Reach);
+    }
+    Ok(Sort {
+        kind: judged.kind,
+        clock: judged.clock,
+        reach,
+        depth,
+        nodes,
+    })
+}
+
+/// How many nodes the tree has, or None where they are more than the limit.
+fn nodes_within(e: &Expr, limit: u32) -> Option<u32>
+    ensures { result ≡ (if nat_le (nodes_of (tree_of e.now)) limit then Some (nodes_of (tree_of e.now)) else None) }
+{
+    if limit == 0 {
+        return None;
+    }
+    let below = limit - 1;
+    match e {
+        Expr::Empty | Expr::List(_) | Expr::Span(_, _, _) => Some(1),
+        Expr::Union(a, b) | Expr::Meet(a, b) | Expr::Minus(a, b) => {
+            let left = nodes_within(a, below)?;
+            let right = nodes_within(b, below - left)?;
+            Some(1 + left + right)
+        }
+        Expr::Not(a) => Some(1 + nodes_within(a, below)?),
+    }
+}
+
+/// How many nodes the longest path has, or None where they are more than the limit.
+fn depth_within(e: &Expr, limit: u32) -> Option<u32>
+    ensures { result ≡ (if nat_le (depth_of (tree_of e.now)) limit then Some (depth_of (tree_of e.now)) else None) }
+{
+    if limit == 0 {
+        return None;
+    }
+    let below = limit - 1;
+    match e {
+        Expr::Empty | Expr::List(_) | Expr::Span(_, _, _) => Some(1),
+        Expr::Union(a, b) | Expr::Meet(a, b) | Expr::Minus(a, b) => {
+            let left = depth_within(a, below)?;
+            let right = depth_within(b, below)?;
+            Some(1 + max(left, right))
+        }
+        Expr::Not(a) => Some(1 + depth_within(a, below)?),
+    }
+}
+
+/// How many seconds from a position membership may look, along some path.
+fn reach(e: &Expr) -> i64
+    ensures { result ≡ pos (reach_of (tree_of e.now)) }
+{
+    match e {
+        Expr::Empty | Expr::List(_) | Expr::Span(_, _, _) => 0,
+        Expr::Union(a, b) | Expr::Meet(a, b) | Expr::Minus(a, b) => max(reach(a), reach(b)),
+        Expr::Not(a) => reach(a),
+    }
+}
+
+/// The kind and the clock of a set, or the fault of the first node that has one.
+fn judge_tree(e: &Expr) -> Result<Judged, SortFault>
+    ensures { result ≡ judge (tree_of e.now) }
+{
+    match e {
+        Expr::Empty => Ok(Judged {
+            kind: Kind::Moments,
+            clock: Clock::Any,
+        }),
+        Expr::List(stamps) => with_clock(Kind::Moments, clock_of_stamps(stamps.items())),
+        Expr::Span(_, low, high) => with_clock(Kind::Spans, one_clock(*low, *high)),
+        Expr::Union(a, b) => {
+            let (a, b) = (judge_tree(a)?, judge_tree(b)?);
+            with_clock(either_kind(a.kind, b.kind), one_clock(a.clock, b.clock))
+        }
+        Expr::Meet(a, b) => {
+            let (a, b) = (judge_tree(a)?, judge_tree(b)?);
+            with_clock(both_kind(a.kind, b.kind), one_clock(a.clock, b.clock))
+        }
+        Expr::Minus(a, b) => {
+            let (a, b) = (judge_tree(a)?, judge_tree(b)?);
+            with_clock(a.kind, one_clock(a.clock, b.clock))
+        }
+        Expr::Not(a) => Ok(Judged {
+            kind: Kind::Spans,
+            clock: judge_tree(a)?.clock,
+        }),
+    }
+}
+
+fn with_clock(kind: Kind, clock: Option<Clock>) -> Result<Judged, SortFault>
+    ensures { result ≡ with_clock kind clock }
+{
+    match clock {
+        Some(clock) => Ok(Judged { kind, clock }),
+        None => Err(SortFault::Clock),
+    }
+}
+
+/// The one clock of both, any giving way, or None where two decided clocks differ.
+fn one_clock(a: Clock, b: Clock) -> Option<Clock>
+    ensures { result ≡ one_clock a b }
+{
+    match (a, b) {
+        (Clock::Any, other) | (other, Clock::Any) => Some(other),
+        (Clock::Floating, Clock::Floating) => Some(Clock::Floating),
+        (Clock::Absolute, Clock::Absolute) => Some(Clock::Absolute),
+        _ => None,
+    }
+}
+
+fn clock_of(stamp: Stamp) -> Clock
+    ensures { result ≡ clock_of_stamp stamp }
+{
+    if stamp.absolute {
+        Clock::Absolute
+    } else {
+        Clock::Floating
+    }
+}
+
+/// The one clock of the moments, any where there are none.
+fn clock_of_stamps(stamps: &[Stamp]) -> Option<Clock>
+    ensures { result ≡ clock_of_stamps stamps.now }
+{
+    let mut clock = Clock::Any;
+    for stamp in stamps {
+        clock = one_clock(clock, clock_of(*stamp))?;
+    }
+    Some(clock)
+}
+
+/// The kind of what either set has.
+fn either_kind(a: Kind, b: Kind) -> Kind
+    ensures { result ≡ either_kind a b }
+{
+    match (a, b) {
+        (Kind::Moments, Kind::Moments) => Kind::Moments,
+        _ => Kind::Spans,
+    }
+}
+
+/// The kind of what both sets have.
+fn both_kind(a: Kind, b: Kind) -> Kind
+    ensures { result ≡ both_kind a b }
+{
+    match (a, b) {
+        (Kind::Spans, Kind::Spans) => Kind::Spans,
+        _ => Kind::Moments,
+    }
+}
