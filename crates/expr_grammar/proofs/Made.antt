@@ -1,0 +1,77 @@
+-- Spelled expressions are made of the moments of their tokens.
+use Rattle.std.proofs.Common.{◌≡◌, ℕ, zero, suc, List, [], ◌∷◌, ◌++◌, Option, Some, None, subst}
+use Rattle.std.specs.List.{AllByRecursion}
+use Rattle.moment_core.specs.declared.line.Stamp.{Stamp}
+use Rattle.expr_tokens.specs.declared.token.Operator.{Operator}
+use Rattle.expr_tokens.specs.declared.token.Operator.TheVariants as operators
+use Rattle.expr_tokens.specs.Plain.{Token}
+use Rattle.expr_tokens.specs.Plain as tokens
+use Rattle.expr_grammar.specs.declared.syntax.SpanBound.{SpanBound}
+use Rattle.expr_grammar.specs.Form.{Form, Joined, Forms}
+use Rattle.expr_grammar.specs.Grammar.{Goes, ends, goes, Chain, MoreMoments, closed, more, IsLow, from_start, from_after, IsHigh, to_end, to_before, Bounds, no_bound, low_bound, high_bound, both_bounds, Leaf, empty, listed, span, Nested, leaf, brackets, inverse, IsExpr, IsAtom, Spells, one, two}
+use Rattle.expr_grammar.specs.Made.{HasMoment, BoundHas, IsMade, AreMade}
+use Rattle.expr_grammar.proofs.Lists.{all_front, all_behind}
+
+module _ (P : Option Stamp → Type 0) where
+  abbrev Dates : List Token → Type 0
+  Dates ts = AllByRecursion (HasMoment P) ts
+
+  abbrev Keeps : (Form → List Token → Type 0) → Type 0
+  Keeps Spelled = (t : Form) (ts : List Token) → Spelled t ts → Dates ts → IsMade P t
+
+  more_made : (ms : List (Option Stamp)) (ts : List Token) → MoreMoments ms ts → Dates ts → AllByRecursion P ms
+  more_made ms ts closed h = tt
+  more_made ms ts (more m others rest spelled) h = (h.1.0, more_made others rest spelled h.1.1)
+
+  low_made : (b : SpanBound) (ts : List Token) → IsLow b ts → Dates ts → P b.stamp
+  low_made b ts (from_start m) h = h.1.0
+  low_made b ts (from_after m) h = h.1.0
+
+  high_made : (b : SpanBound) (ts : List Token) → IsHigh b ts → Dates ts → P b.stamp
+  high_made b ts (to_end m) h = h.1.0
+  high_made b ts (to_before m) h = h.1.0
+
+  bounds_made : (a b : Option SpanBound) (ts : List Token) → Bounds a b ts → Dates ts → BoundHas P a × BoundHas P b
+  bounds_made a b ts no_bound h = (tt, tt)
+  bounds_made a b ts (low_bound x xs first) h = (low_made x xs first h, tt)
+  bounds_made a b ts (high_bound y ys second) h = (tt, high_made y ys second h)
+  bounds_made a b ts (both_bounds x y xs ys first second) h =
+      (low_made x xs first (all_front (HasMoment P) xs (tokens.Comma ∷ ys) h), high_made y ys second (all_behind (HasMoment P) xs (tokens.Comma ∷ ys) h).1)
+
+  leaf_made : Keeps Leaf
+  leaf_made t ts empty h = tt
+  leaf_made t ts (listed m ms rest spelled) h = (h.1.0, more_made ms rest spelled h.1.1)
+  leaf_made t ts (span a b inner spelled) h = bounds_made a b inner spelled (all_front (HasMoment P) inner (tokens.Close ∷ []) h.1.1)
+
+  goes_made : (Operand : Form → List Token → Type 0) (op : Operator) → Keeps Operand → (left t : Form) (ts : List Token) → Goes Operand op left t ts → IsMade P left → Dates ts → IsMade P t
+  goes_made Operand op keeps left t ts (ends _) made h = made
+  goes_made Operand op keeps left t ts (goes _ b _ xs ys o others) made h =
+      goes_made Operand op keeps (Joined op left b) t ys others (made, keeps b xs o (all_front (HasMoment P) xs ys h.1)) (all_behind (HasMoment P) xs ys h.1)
+
+  chain_made : (Operand : Form → List Token → Type 0) (op : Operator) → Keeps Operand → Keeps (Chain Operand op)
+  chain_made Operand op keeps t ts j h =
+      let parts : Dates (j.front ++ j.others) = subst Dates j.whole h in
+      goes_made Operand op keeps j.first t j.others j.goes_on (keeps j.first j.front j.begins (all_front (HasMoment P) j.front j.others parts)) (all_behind (HasMoment P) j.front j.others parts)
+
+  expr_made : (Atom : Form → List Token → Type 0) → Keeps Atom → Keeps (IsExpr Atom)
+  expr_made Atom keeps =
+      chain_made (Chain (Chain Atom operators.Meet) operators.Minus) operators.Union
+      (chain_made (Chain Atom operators.Meet) operators.Minus (chain_made Atom operators.Meet keeps))
+
+  nested_made : (Whole Atom : Form → List Token → Type 0) → Keeps Whole → Keeps Atom → Keeps (Nested Whole Atom)
+  nested_made Whole Atom whole atom t ts (leaf _ _ spelled) h = leaf_made t ts spelled h
+  nested_made Whole Atom whole atom t ts (brackets _ inner spelled) h = whole t inner spelled (all_front (HasMoment P) inner (tokens.Close ∷ []) h.1)
+  nested_made Whole Atom whole atom t ts (inverse a inner spelled) h = atom a inner spelled h.1
+
+  atom_made : (depth : ℕ) → Keeps (IsAtom depth)
+  unfolding IsAtom
+  atom_made zero = leaf_made
+  atom_made (suc depth) = nested_made (IsExpr (IsAtom depth)) (IsAtom depth) (expr_made (IsAtom depth) (atom_made depth)) (atom_made depth)
+
+  whole_made : Keeps (IsExpr (IsAtom 128))
+  whole_made = expr_made (IsAtom 128) (atom_made 128)
+
+  pub program_made : (p : Forms) (ts : List Token) → Spells p ts → Dates ts → AreMade P p
+  program_made p ts (one t _ spelled) h = (whole_made t ts spelled h, tt)
+  program_made p ts (two t u xs ys first second) h =
+      (whole_made t xs first (all_front (HasMoment P) xs (tokens.Semicolon ∷ ys) h), whole_made u ys second (all_behind (HasMoment P) xs (tokens.Semicolon ∷ ys) h).1)

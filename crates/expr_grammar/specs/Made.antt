@@ -1,0 +1,33 @@
+-- Expressions by the moments that they are made of.
+use Rattle.std.specs.Prelude.{List, [], ◌∷◌, Option, Some, None}
+use Rattle.std.specs.List.{AllByRecursion}
+use Rattle.moment_core.specs.declared.line.Stamp.{Stamp}
+use Rattle.expr_tokens.specs.Plain.{Token}
+use Rattle.expr_tokens.specs.Plain as tokens
+use Rattle.expr_grammar.specs.declared.syntax.SpanBound.{SpanBound}
+use Rattle.expr_grammar.specs.Form.{Form, Empty, Listed, Span, Joined, Inverse, Forms}
+
+-- the property holds of the literal, where the token is one
+abbrev pub HasMoment : (Option Stamp → Type 0) → Token → Type 0
+HasMoment P (tokens.Moment m) = P m
+HasMoment P t = Unit {0}
+
+abbrev pub BoundHas : (Option Stamp → Type 0) → Option SpanBound → Type 0
+BoundHas P None = Unit {0}
+BoundHas P (Some b) = P b.stamp
+
+-- the property holds of each literal, and no list is empty
+abbrev pub IsMade : (Option Stamp → Type 0) → Form → Type 0
+IsMade P Empty = Unit {0}
+IsMade P (Listed []) = ⊥
+IsMade P (Listed (m ∷ ms)) = P m × AllByRecursion P ms
+IsMade P (Span low high) = BoundHas P low × BoundHas P high
+IsMade P (Joined op a b) = IsMade P a × IsMade P b
+IsMade P (Inverse a) = IsMade P a
+
+abbrev pub IsMadeSecond : (Option Stamp → Type 0) → Option Form → Type 0
+IsMadeSecond P None = Unit {0}
+IsMadeSecond P (Some t) = IsMade P t
+
+abbrev pub AreMade : (Option Stamp → Type 0) → Forms → Type 0
+AreMade P p = IsMade P p.first × IsMadeSecond P p.second

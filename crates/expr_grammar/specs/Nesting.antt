@@ -1,0 +1,99 @@
+-- Printed expressions: which operands stand in brackets, how deep the brackets and signs nest, and the tokens.
+use Rattle.std.specs.Prelude.{◌≡◌, ◌≤◌, ℕ, suc, max, Bool, true, false, List, [], ◌∷◌, ◌++◌, Option, Some, None}
+use Rattle.moment_core.specs.declared.line.Stamp.{Stamp}
+use Rattle.expr_tokens.specs.declared.token.Word.{Word}
+use Rattle.expr_tokens.specs.declared.token.Word.TheVariants as words
+use Rattle.expr_tokens.specs.Plain.{Token}
+use Rattle.expr_tokens.specs.Plain as tokens
+use Rattle.expr_grammar.specs.declared.syntax.SpanBound.{SpanBound}
+use Rattle.expr_grammar.specs.Form.{Form, Empty, Listed, Span, Joined, Inverse, Forms}
+
+-- An operand that is itself joined by an operator stands in brackets.
+abbrev pub is_joined : Form → Bool
+is_joined (Joined op a b) = true
+is_joined t = false
+
+-- within one more pair of brackets, or behind one more sign
+abbrev pub OneDeeper : (ℕ → Type 0) → ℕ → Type 0
+OneDeeper Nests depth = (inner : ℕ) × (depth ≡ suc inner) × Nests inner
+
+abbrev pub AsOperand : Bool → (ℕ → Type 0) → ℕ → Type 0
+AsOperand true Nests depth = OneDeeper Nests depth
+AsOperand false Nests depth = Nests depth
+
+-- the brackets and signs of the printed form nest at most so deep
+unfoldable pub NestsWithin : Form → ℕ → Type 0
+NestsWithin Empty depth = Unit {0}
+NestsWithin (Listed ms) depth = Unit {0}
+NestsWithin (Span low high) depth = Unit {0}
+NestsWithin (Joined op a b) depth = AsOperand (is_joined a) (NestsWithin a) depth × AsOperand (is_joined b) (NestsWithin b) depth
+NestsWithin (Inverse t) depth = OneDeeper (AsOperand (is_joined t) (NestsWithin t)) depth
+
+-- how many expressions stand in one another
+unfoldable pub height : Form → ℕ
+height Empty = 1
+height (Listed ms) = 1
+height (Span low high) = 1
+height (Joined op a b) = suc (max (height a) (height b))
+height (Inverse t) = suc (height t)
+
+-- no list is empty
+unfoldable pub HasNoEmptyList : Form → Type 0
+HasNoEmptyList Empty = Unit {0}
+HasNoEmptyList (Listed []) = ⊥
+HasNoEmptyList (Listed (m ∷ ms)) = Unit {0}
+HasNoEmptyList (Span low high) = Unit {0}
+HasNoEmptyList (Joined op a b) = HasNoEmptyList a × HasNoEmptyList b
+HasNoEmptyList (Inverse t) = HasNoEmptyList t
+
+abbrev pub in_brackets : Bool → List Token → List Token
+in_brackets true ts = tokens.Open ∷ ts ++ tokens.Close ∷ []
+in_brackets false ts = ts
+
+abbrev pub more_tokens : List (Option Stamp) → List Token
+more_tokens [] = tokens.RightBrace ∷ []
+more_tokens (m ∷ ms) = tokens.Comma ∷ tokens.Moment m ∷ more_tokens ms
+
+abbrev pub list_tokens : List (Option Stamp) → List Token
+list_tokens [] = tokens.RightBrace ∷ []
+list_tokens (m ∷ ms) = tokens.Moment m ∷ more_tokens ms
+
+abbrev pub low_word : Bool → Word
+low_word true = words.Start
+low_word false = words.After
+
+abbrev pub high_word : Bool → Word
+high_word true = words.End
+high_word false = words.Before
+
+abbrev pub bounds_tokens : Option SpanBound → Option SpanBound → List Token
+bounds_tokens None None = []
+bounds_tokens (Some a) None = tokens.Word (low_word a.closed) ∷ tokens.Moment a.stamp ∷ []
+bounds_tokens None (Some b) = tokens.Word (high_word b.closed) ∷ tokens.Moment b.stamp ∷ []
+bounds_tokens (Some a) (Some b) = tokens.Word (low_word a.closed) ∷ tokens.Moment a.stamp ∷ tokens.Comma ∷ tokens.Word (high_word b.closed) ∷ tokens.Moment b.stamp ∷ []
+
+-- the tokens of the printed form
+unfoldable pub spelled : Form → List Token
+spelled Empty = tokens.Word words.Empty ∷ tokens.Open ∷ tokens.Close ∷ []
+spelled (Listed ms) = tokens.LeftBrace ∷ list_tokens ms
+spelled (Span low high) = tokens.Word words.Span ∷ tokens.Open ∷ bounds_tokens low high ++ tokens.Close ∷ []
+spelled (Joined op a b) = in_brackets (is_joined a) (spelled a) ++ tokens.Operator op ∷ in_brackets (is_joined b) (spelled b)
+spelled (Inverse t) = tokens.Exclamation ∷ in_brackets (is_joined t) (spelled t)
+
+abbrev pub spelled_second : Option Form → List Token
+spelled_second None = []
+spelled_second (Some t) = tokens.Semicolon ∷ spelled t
+
+abbrev pub spelled_program : Forms → List Token
+spelled_program p = spelled p.first ++ spelled_second p.second
+
+abbrev pub IsPrintableForm : Form → Type 0
+IsPrintableForm t = HasNoEmptyList t × (height t ≤ 128)
+
+abbrev pub IsPrintableSecond : Option Form → Type 0
+IsPrintableSecond None = Unit {0}
+IsPrintableSecond (Some t) = IsPrintableForm t
+
+-- no list is empty, and each expression is at most 128 high
+abbrev pub IsPrintable : Forms → Type 0
+IsPrintable p = IsPrintableForm p.first × IsPrintableSecond p.second

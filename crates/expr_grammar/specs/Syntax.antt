@@ -1,0 +1,44 @@
+-- Syntax trees without where they lie in memory, and the places that they keep.
+use Rattle.std.specs.Prelude.{ℕ, List, [], ◌∷◌, ◌++◌, Option, Some, None}
+use Rattle.expr_tokens.specs.declared.token.Token.{Token as Placed}
+use Rattle.expr_tokens.specs.declared.token.Token.TheVariants as placed
+use Rattle.expr_tokens.specs.declared.token.Word.TheVariants as words
+use Rattle.expr_grammar.specs.declared.syntax.SyntaxTree.{SyntaxTree}
+use Rattle.expr_grammar.specs.declared.syntax.SyntaxTree.TheVariants as trees
+use Rattle.expr_grammar.specs.declared.syntax.SyntaxTrees.{SyntaxTrees}
+use Rattle.expr_grammar.specs.Form.{Form, Empty, Listed, Span, Joined, Inverse, Forms}
+
+abbrev pub form_of : SyntaxTree → Form
+form_of trees.Empty = Empty
+form_of (trees.List v) = Listed v.items
+form_of (trees.Span place low high) = Span low high
+form_of (trees.Joined' op x a y b) = Joined op (form_of a) (form_of b)
+form_of (trees.Inverse' x a) = Inverse (form_of a)
+
+abbrev pub second_form : Option SyntaxTree → Option Form
+second_form None = None
+second_form (Some t) = Some (form_of t)
+
+abbrev pub forms_of : SyntaxTrees → Forms
+forms_of p = record { first = form_of p.first; second = second_form p.second }
+
+-- the places of the spans, from left to right
+abbrev pub places_of : SyntaxTree → List ℕ
+places_of trees.Empty = []
+places_of (trees.List v) = []
+places_of (trees.Span place low high) = place ∷ []
+places_of (trees.Joined' op x a y b) = places_of a ++ places_of b
+places_of (trees.Inverse' x a) = places_of a
+
+abbrev pub second_places : Option SyntaxTree → List ℕ
+second_places None = []
+second_places (Some t) = places_of t
+
+abbrev pub all_places_of : SyntaxTrees → List ℕ
+all_places_of p = places_of p.first ++ second_places p.second
+
+-- the places of the name `span`, from left to right
+abbrev pub span_places : List Placed → List ℕ
+span_places [] = []
+span_places (placed.Word words.Span place ∷ ts) = place ∷ span_places ts
+span_places (t ∷ ts) = span_places ts

@@ -1,0 +1,401 @@
+ghost use Rattle.std.specs.Prelude.{◌≡◌, ◌<◌, ◌≤◌, ◌∷◌, ◌++◌, length, List, drop, true, false, IfOk, IfNone, IfSome, OnSome, Some, IsErrOf};
+ghost use Rattle.expr_tokens.specs.Plain.{Token as PlainToken, plains};
+ghost use Rattle.expr_grammar.specs.Form.{Form, Forms, Listed, Span};
+ghost use Rattle.expr_grammar.specs.Syntax.{form_of, forms_of, places_of, all_places_of, span_places};
+ghost use Rattle.expr_grammar.specs.Moments.{IsNext};
+ghost use Rattle.expr_grammar.specs.Grammar.{Spells};
+ghost use Rattle.expr_grammar.specs.Nesting.{IsPrintable, spelled_program};
+ghost use Rattle.expr_grammar.specs.Parsing.{Gives, stands, moment_at, list_at, moments_at, moments_end_at, with_first, close_at, high_at, high_end_at, low_end_at, span_at, leaf_at, atom_at, expr_at, nested_at, operand_at, chain_at, program_end_at, program_at, second_at};
+
+use crate::fault::ParseFault;
+use crate::syntax::{SpanBound, SyntaxTree, SyntaxTrees, inverse, joined, spanned};
+use expr_tokens::{Operator, Token, Word};
+use moment_core::Stamp;
+use std::alloc::Global;
+
+/// The tokens behind the operator, where it stands next.
+fn behind<'t, 'a>(op: Operator, tokens: &'t [Token<'a>]) -> Option<&'t [Token<'a>]>
+    ensures none { IfNone result (stands op (plains tokens.now) ≡ false) }
+    ensures some { OnSome result (stands op (plains tokens.now) ≡ true) }
+    ensures rest { IfSome result (λ after. plains after.now ≡ drop 1 (plains tokens.now)) }
+    ensures places { IfSome result (λ after. span_places after.now ≡ span_places tokens.now) }
+    ensures shorter { IfSome result (λ after. length after.now < length tokens.now) }
+{
+    match tokens {
+        [Token::Operator(next), after @ ..] if *next == op => Some(after),
+        _ => None,
+    }
+}
+
+/// The next moment of a list, and the tokens behind it.
+#[tactic(auto, unfolding(crate::specs::Parsing::moments_at, crate::specs::Parsing::moments_end_at))]
+fn next_moment<'t, 'a>(tokens: &'t [Token<'a>]) -> Option<(Option<Stamp>, &'t [Token<'a>])>
+    ensures read { IsNext (plains tokens.now) result }
+    ensures places { IfSome result (λ x. span_places x.1.now ≡ span_places tokens.now) }
+    ensures shorter { IfSome result (λ x. length x.1.now < length tokens.now) }
+{
+    match tokens {
+        [Token::Comma, Token::Moment(stamp, _), rest @ ..] => Some((*stamp, rest)),
+        _ => None,
+    }
+}
+
+#[tactic(auto, unfolding(crate::specs::Parsing::moments_end_at))]
+fn moments_end<'t, 'a>(
+    found: Vec<Option<Stamp>>,
+    tokens: &'t [Token<'a>],
+) -> Result<(Vec<Option<Stamp>>, &'t [Token<'a>]), ParseFault>
+    ensures read { Gives (λ x. (x.0.items, plains x.1.now)) result (moments_end_at found.items (plains tokens.now)) }
+    ensures places { IfOk result (λ x. span_places tokens.now ≡ span_places x.1.now) }
+    ensures shorter { IfOk result (λ x. length x.1.now ≤ length tokens.now) }
+{
+    match tokens {
+        [Token::RightBrace, rest @ ..] => Ok((found, rest)),
+        _ => Err(ParseFault::Syntax),
+    }
+}
+
+fn first_moment<'t, 'a>(
+    tokens: &'t [Token<'a>],
+) -> Result<(Option<Stamp>, &'t [Token<'a>]), ParseFault>
+    ensures read { Gives (λ x. (x.0, plains x.1.now)) result (moment_at (plains tokens.now)) }
+    ensures places { IfOk result (λ x. span_places tokens.now ≡ span_places x.1.now) }
+    ensures shorter { IfOk result (λ x. length x.1.now ≤ length tokens.now) }
+{
+    match tokens {
+        [Token::Moment(stamp, _), rest @ ..] => Ok((*stamp, rest)),
+        _ => Err(ParseFault::Syntax),
+    }
+}
+
+/// The moments of a list, up to its brace.
+#[tactic(auto, unfolding(crate::specs::Parsing::list_at))]
+fn moments<'t, 'a>(
+    alloc: Global,
+    tokens: &'t [Token<'a>],
+) -> Result<(Vec<Option<Stamp>>, &'t [Token<'a>]), ParseFault>
+    ensures read { Gives (λ x. (x.0.items, plains x.1.now)) result (list_at (plains tokens.now)) }
+    ensures places { IfOk result (λ x. span_places tokens.now ≡ span_places x.1.now) }
+    ensures shorter { IfOk result (λ x. length x.1.now ≤ length tokens.now) }
+{
+    let (first, mut rest) = first_moment(tokens)?;
+    let mut found = Vec::new(alloc);
+    found.push(first)?;
+    'moments: while let Some((stamp, after)) = next_moment(rest) {
+        found.push(stamp)?;
+        rest = after;
+    }
+    moments_end(found, rest)
+}
+
+#[tactic(auto, unfolding(crate::specs::Parsing::close_at))]
+fn close<'t, 'a>(
+    whole: SyntaxTree,
+    tokens: &'t [Token<'a>],
+) -> Result<(SyntaxTree, &'t [Token<'a>]), ParseFault>
+    ensures read { Gives (λ x. (form_of x.0, plains x.1.now)) result (close_at (form_of whole) (plains tokens.now)) }
+    ensures places { IfOk result (λ x. places_of whole ++ span_places tokens.now ≡ places_of x.0 ++ span_places x.1.now) }
+    ensures shorter { IfOk result (λ x. length x.1.now ≤ length tokens.now) }
+{
+    match tokens {
+        [Token::Close, rest @ ..] => Ok((whole, rest)),
+        _ => Err(ParseFault::Syntax),
+    }
+}
+
+fn high<'t, 'a>(tokens: &'t [Token<'a>]) -> Result<(SpanBound, &'t [Token<'a>]), ParseFault>
+    ensures read { Gives (λ x. (x.0, plains x.1.now)) result (high_at (plains tokens.now)) }
+    ensures places { IfOk result (λ x. span_places tokens.now ≡ span_places x.1.now) }
+    ensures shorter { IfOk result (λ x. length x.1.now ≤ length tokens.now) }
+{
+    let (closed, stamp, rest) = match tokens {
+        [
+            Token::Word(Word::End, _),
+            Token::Moment(stamp, _),
+            rest @ ..,
+        ] => (true, *stamp, rest),
+        [
+            Token::Word(Word::Before, _),
+            Token::Moment(stamp, _),
+            rest @ ..,
+        ] => (false, *stamp, rest),
+        _ => return Err(ParseFault::Syntax),
+    };
+    Ok((SpanBound { closed, stamp }, rest))
+}
+
+/// The upper bound, and the bracket behind it.
+#[tactic(auto, unfolding(crate::specs::Parsing::high_end_at))]
+fn high_end<'t, 'a>(
+    place: usize,
+    low: Option<SpanBound>,
+    tokens: &'t [Token<'a>],
+) -> Result<(SyntaxTree, &'t [Token<'a>]), ParseFault>
+    ensures read { Gives (λ x. (form_of x.0, plains x.1.now)) result (high_end_at low (plains tokens.now)) }
+    ensures places { IfOk result (λ x. place ∷ span_places tokens.now ≡ places_of x.0 ++ span_places x.1.now) }
+    ensures shorter { IfOk result (λ x. length x.1.now ≤ length tokens.now) }
+{
+    let (high, rest) = high(tokens)?;
+    close(spanned(place, low, Some(high)), rest)
+}
+
+/// What stands behind a lower bound.
+#[tactic(auto, unfolding(crate::specs::Parsing::low_end_at))]
+fn low_end<'t, 'a>(
+    place: usize,
+    low: SpanBound,
+    tokens: &'t [Token<'a>],
+) -> Result<(SyntaxTree, &'t [Token<'a>]), ParseFault>
+    ensures read { Gives (λ x. (form_of x.0, plains x.1.now)) result (low_end_at low (plains tokens.now)) }
+    ensures places { IfOk result (λ x. place ∷ span_places tokens.now ≡ places_of x.0 ++ span_places x.1.now) }
+    ensures shorter { IfOk result (λ x. length x.1.now ≤ length tokens.now) }
+{
+    match tokens {
+        [Token::Comma, rest @ ..] => high_end(place, Some(low), rest),
+        _ => close(spanned(place, Some(low), None), tokens),
+    }
+}
+
+/// The bounds of a span, and the bracket behind them.
+#[tactic(auto, unfolding(crate::specs::Parsing::span_at))]
+fn span<'t, 'a>(
+    place: usize,
+    tokens: &'t [Token<'a>],
+) -> Result<(SyntaxTree, &'t [Token<'a>]), ParseFault>
+    ensures read { Gives (λ x. (form_of x.0, plains x.1.now)) result (span_at (plains tokens.now)) }
+    ensures places { IfOk result (λ x. place ∷ span_places tokens.now ≡ places_of x.0 ++ span_places x.1.now) }
+    ensures shorter { IfOk result (λ x. length x.1.now ≤ length tokens.now) }
+{
+    match tokens {
+        [Token::Close, rest @ ..] => Ok((spanned(place, None, None), rest)),
+        [
+            Token::Word(Word::Start, _),
+            Token::Moment(stamp, _),
+            rest @ ..,
+        ] => {
+            let low = SpanBound {
+                closed: true,
+                stamp: *stamp,
+            };
+            low_end(place, low, rest)
+        }
+        [
+            Token::Word(Word::After, _),
+            Token::Moment(stamp, _),
+            rest @ ..,
+        ] => {
+            let low = SpanBound {
+                closed: false,
+                stamp: *stamp,
+            };
+            low_end(place, low, rest)
+        }
+        _ => high_end(place, None, tokens),
+    }
+}
+
+/// An atom without an expression in it.
+#[tactic(auto, unfolding(crate::specs::Parsing::leaf_at))]
+fn leaf<'t, 'a>(
+    alloc: Global,
+    tokens: &'t [Token<'a>],
+) -> Result<(SyntaxTree, &'t [Token<'a>]), ParseFault>
+    ensures read { Gives (λ x. (form_of x.0, plains x.1.now)) result (leaf_at (plains tokens.now)) }
+    ensures places { IfOk result (λ x. span_places tokens.now ≡ places_of x.0 ++ span_places x.1.now) }
+    ensures shorter { IfOk result (λ x. length x.1.now ≤ length tokens.now) }
+{
+    match tokens {
+        [
+            Token::Word(Word::Empty, _),
+            Token::Open,
+            Token::Close,
+            rest @ ..,
+        ] => Ok((SyntaxTree::Empty, rest)),
+        [Token::Word(Word::Span, place), Token::Open, rest @ ..] => span(*place, rest),
+        [Token::LeftBrace, rest @ ..] => {
+            let (found, rest) = moments(alloc, rest)?;
+            Ok((SyntaxTree::List(found), rest))
+        }
+        _ => Err(ParseFault::Syntax),
+    }
+}
+
+#[cycle(expression)]
+#[tactic(auto, unfolding(crate::specs::Parsing::atom_at))]
+fn atom<'t, 'a>(
+    alloc: Global,
+    tokens: &'t [Token<'a>],
+    depth: u8,
+) -> Result<(SyntaxTree, &'t [Token<'a>]), ParseFault>
+    ensures read { Gives (λ x. (form_of x.0, plains x.1.now)) result (atom_at depth (plains tokens.now)) }
+    ensures places { IfOk result (λ x. span_places tokens.now ≡ places_of x.0 ++ span_places x.1.now) }
+    ensures shorter { IfOk result (λ x. length x.1.now ≤ length tokens.now) }
+{
+    if depth == 0 {
+        leaf(alloc, tokens)
+    } else {
+        nested(alloc, tokens, depth - 1)
+    }
+}
+
+/// An atom that may have one more pair of brackets or one more sign than so many.
+#[cycle(expression)]
+#[tactic(auto, unfolding(crate::specs::Parsing::nested_at))]
+fn nested<'t, 'a>(
+    alloc: Global,
+    tokens: &'t [Token<'a>],
+    depth: u8,
+) -> Result<(SyntaxTree, &'t [Token<'a>]), ParseFault>
+    ensures read { Gives (λ x. (form_of x.0, plains x.1.now)) result (nested_at (expr_at (atom_at depth)) (atom_at depth) (plains tokens.now)) }
+    ensures places { IfOk result (λ x. span_places tokens.now ≡ places_of x.0 ++ span_places x.1.now) }
+    ensures shorter { IfOk result (λ x. length x.1.now ≤ length tokens.now) }
+{
+    match tokens {
+        [Token::Open, inner @ ..] => {
+            let (whole, rest) = chain(alloc, Operator::Union, inner, depth)?;
+            close(whole, rest)
+        }
+        [Token::Exclamation, inner @ ..] => {
+            let (whole, rest) = atom(alloc, inner, depth)?;
+            Ok((inverse(alloc, whole)?, rest))
+        }
+        _ => leaf(alloc, tokens),
+    }
+}
+
+/// What the operator joins.
+#[cycle(expression)]
+fn operand<'t, 'a>(
+    alloc: Global,
+    op: Operator,
+    tokens: &'t [Token<'a>],
+    depth: u8,
+) -> Result<(SyntaxTree, &'t [Token<'a>]), ParseFault>
+    ensures read { Gives (λ x. (form_of x.0, plains x.1.now)) result (operand_at (atom_at depth) op (plains tokens.now)) }
+    ensures places { IfOk result (λ x. span_places tokens.now ≡ places_of x.0 ++ span_places x.1.now) }
+    ensures shorter { IfOk result (λ x. length x.1.now ≤ length tokens.now) }
+{
+    match op {
+        Operator::Meet => atom(alloc, tokens, depth),
+        Operator::Minus => chain(alloc, Operator::Meet, tokens, depth),
+        Operator::Union => chain(alloc, Operator::Minus, tokens, depth),
+    }
+}
+
+/// One operand, or more that the operator joins to the left.
+#[cycle(expression)]
+fn chain<'t, 'a>(
+    alloc: Global,
+    op: Operator,
+    tokens: &'t [Token<'a>],
+    depth: u8,
+) -> Result<(SyntaxTree, &'t [Token<'a>]), ParseFault>
+    ensures read { Gives (λ x. (form_of x.0, plains x.1.now)) result (chain_at (operand_at (atom_at depth) op) op (plains tokens.now)) }
+    ensures places { IfOk result (λ x. span_places tokens.now ≡ places_of x.0 ++ span_places x.1.now) }
+    ensures shorter { IfOk result (λ x. length x.1.now ≤ length tokens.now) }
+{
+    let (mut left, mut rest) = operand(alloc, op, tokens, depth)?;
+    'operands: while let Some(after) = behind(op, rest) {
+        let (right, after) = operand(alloc, op, after, depth)?;
+        left = joined(alloc, op, left, right)?;
+        rest = after;
+    }
+    Ok((left, rest))
+}
+
+/// How deep round brackets and signs may nest.
+const DEPTH: u8 = 128;
+
+fn expression<'t, 'a>(
+    alloc: Global,
+    tokens: &'t [Token<'a>],
+) -> Result<(SyntaxTree, &'t [Token<'a>]), ParseFault>
+    ensures read { Gives (λ x. (form_of x.0, plains x.1.now)) result (expr_at (atom_at DEPTH) (plains tokens.now)) }
+    ensures places { IfOk result (λ x. span_places tokens.now ≡ places_of x.0 ++ span_places x.1.now) }
+{
+    chain(alloc, Operator::Union, tokens, DEPTH)
+}
+
+#[tactic(auto, unfolding(crate::specs::Parsing::second_at))]
+fn second<'t, 'a>(
+    alloc: Global,
+    first: SyntaxTree,
+    tokens: &'t [Token<'a>],
+) -> Result<SyntaxTrees, ParseFault>
+    ensures read { Gives forms_of result (second_at (form_of first) (plains tokens.now)) }
+    ensures places { IfOk result (λ p. places_of first ++ span_places tokens.now ≡ all_places_of p) }
+{
+    let (other, rest) = expression(alloc, tokens)?;
+    if !rest.is_empty() {
+        return Err(ParseFault::Syntax);
+    }
+    Ok(SyntaxTrees {
+        first,
+        second: Some(other),
+    })
+}
+
+#[tactic(auto, unfolding(crate::specs::Parsing::program_end_at))]
+fn program_end<'t, 'a>(
+    alloc: Global,
+    first: SyntaxTree,
+    tokens: &'t [Token<'a>],
+) -> Result<SyntaxTrees, ParseFault>
+    ensures read { Gives forms_of result (program_end_at (form_of first) (plains tokens.now)) }
+    ensures places { IfOk result (λ p. places_of first ++ span_places tokens.now ≡ all_places_of p) }
+{
+    match tokens {
+        [] => Ok(SyntaxTrees {
+            first,
+            second: None,
+        }),
+        [Token::Semicolon, rest @ ..] => second(alloc, first, rest),
+        _ => Err(ParseFault::Syntax),
+    }
+}
+
+#[tactic(auto, unfolding(crate::specs::Parsing::program_at))]
+fn program<'t, 'a>(alloc: Global, tokens: &'t [Token<'a>]) -> Result<SyntaxTrees, ParseFault>
+    ensures read { Gives forms_of result (program_at (plains tokens.now)) }
+    ensures places { IfOk result (λ p. span_places tokens.now ≡ all_places_of p) }
+{
+    let (first, rest) = expression(alloc, tokens)?;
+    program_end(alloc, first, rest)
+}
+
+/// The program that the tokens spell, with its spans at the places of the name `span`.
+pub fn parse<'t, 'a>(alloc: Global, tokens: &'t [Token<'a>]) -> Result<SyntaxTrees, ParseFault>
+    // What is read is spelled so.
+    ensures spelled { IfOk result (λ p. Spells (forms_of p) (plains tokens.now)) }
+    ensures places { IfOk result (λ p. all_places_of p ≡ span_places tokens.now) }
+    // `Syntax` comes only where the tokens spell nothing.
+    ensures syntax { IsErrOf result ParseFault.Syntax → (p : Forms) → Spells p (plains tokens.now) → ⊥ }
+{
+    program(alloc, tokens)
+}
+
+/// No tokens spell two programs.
+pub fn one_program()
+    ensures { (p q : Forms) (ts : List PlainToken) → Spells p ts → Spells q ts → p ≡ q }
+{}
+
+/// The tokens of the printed form spell the program, where no list is empty and each expression is at most 128 high.
+pub fn printed_is_spelled()
+    ensures { (p : Forms) → IsPrintable p → Spells p (spelled_program p) }
+{}
+
+#[cfg(test)]
+mod tests {
+    use super::*;
+
+    #[test]
+    fn an_inverse_is_parsed(rt: HostRuntime) {
+        let tokens = [
+            Token::Exclamation,
+            Token::Word(Word::Span, 1),
+            Token::Open,
+            Token::Close,
+        ];
+        assert!(rt; parse(rt.alloc(), &tokens).is_ok());
+    }
+}

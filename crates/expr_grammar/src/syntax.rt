@@ -1,0 +1,92 @@
+ghost use Rattle.std.specs.Prelude.{◌≡◌, [], ◌∷◌, ◌++◌, IfOk};
+ghost use Rattle.expr_grammar.specs.Form.{Inverse, Joined, Span};
+ghost use Rattle.expr_grammar.specs.Syntax.{form_of, places_of};
+
+use expr_tokens::Operator;
+use moment_core::Stamp;
+use std::alloc::{AllocError, Global};
+
+/// A bound of a span as it was written: closed by `start` or `end`, open by `after` or `before`.
+#[derive(Clone, Copy, Debug, PartialEq, Eq)]
+pub struct SpanBound {
+    pub closed: bool,
+    /// None where the literal names no moment of the calendar range.
+    pub stamp: Option<Stamp>,
+}
+
+/// An expression as it was written, with what its tokens held.
+#[derive(Debug)]
+pub enum SyntaxTree {
+    /// `empty()`
+    Empty,
+    /// `{ .. }`, with None where a literal names no moment of the calendar range.
+    List(Vec<Option<Stamp>>),
+    /// `span( .. )`
+    Span {
+        /// The first byte of the name `span`.
+        place: usize,
+        low: Option<SpanBound>,
+        high: Option<SpanBound>,
+    },
+    /// Two expressions and the operator between them.
+    Joined(Operator, Box<SyntaxTree>, Box<SyntaxTree>),
+    /// `!` before an expression.
+    Inverse(Box<SyntaxTree>),
+}
+
+// A loop, so that a long chain of operators doesn't run out of stack.
+impl Drop for SyntaxTree {
+    fn drop(mut self) {
+        loop {
+            match self {
+                SyntaxTree::Empty => return,
+                SyntaxTree::List(_) => return,
+                SyntaxTree::Span {
+                    place: _,
+                    low: _,
+                    high: _,
+                } => return,
+                SyntaxTree::Joined(_, left, _) => self = Box::into_inner(left),
+                SyntaxTree::Inverse(inner) => self = Box::into_inner(inner),
+            }
+        }
+    }
+}
+
+/// One expression, or two with a `;` between them.
+#[derive(Debug, Drop)]
+pub struct SyntaxTrees {
+    pub first: SyntaxTree,
+    pub second: Option<SyntaxTree>,
+}
+
+/// A span with its name at the place.
+pub(crate) fn spanned(place: usize, low: Option<SpanBound>, high: Option<SpanBound>) -> SyntaxTree
+    ensures form { form_of result ≡ Span low high }
+    ensures places { places_of result ≡ place ∷ [] }
+{
+    SyntaxTree::Span { place, low, high }
+}
+
+/// Two expressions joined by the operator.
+pub(crate) fn joined(
+    alloc: Global,
+    op: Operator,
+    a: SyntaxTree,
+    b: SyntaxTree,
+) -> Result<SyntaxTree, AllocError>
+    ensures form { IfOk result (λ t. form_of t ≡ Joined op (form_of a) (form_of b)) }
+    ensures places { IfOk result (λ t. places_of t ≡ places_of a ++ places_of b) }
+{
+    let a = Box::new(alloc, a)?;
+    let b = Box::new(alloc, b)?;
+    Ok(SyntaxTree::Joined(op, a, b))
+}
+
+/// What isn't in the expression.
+pub(crate) fn inverse(alloc: Global, a: SyntaxTree) -> Result<SyntaxTree, AllocError>
+    ensures form { IfOk result (λ t. form_of t ≡ Inverse (form_of a)) }
+    ensures places { IfOk result (λ t. places_of t ≡ places_of a) }
+{
+    Ok(SyntaxTree::Inverse(Box::new(alloc, a)?))
+}
