@@ -1,0 +1,7 @@
+pub mod Calls
+pub mod Spans
+pub mod Ranges
+pub mod Moments
+pub mod Outcomes
+pub mod Written
+pub mod RoundTrip

@@ -1,0 +1,156 @@
+-- Trees as they are written.
+use Rattle.std.proofs.Common.{◌≡◌, ℕ, ◌≤◌, Bool, true, false, cond, List, [], ◌∷◌, map, Option, Some, None, Result, Ok, Err, refl, sym, ap, ◌∙◌, arith}
+use Rattle.std.specs.Prelude.{nat_lt, option_map}
+use Rattle.std.proofs.lemmas.Bool.Decides.{nat_tests}
+use Rattle.moment_core.specs.declared.line.Clock.{Clock}
+use Rattle.moment_core.specs.declared.line.Clock.TheVariants.{Any, Floating, Absolute}
+use Rattle.moment_core.specs.declared.line.Moment.{Moment}
+use Rattle.moment_core.specs.declared.line.Stamp.{Stamp}
+use Rattle.span_core.specs.Bounds.{IsGiven}
+use Rattle.span_core.specs.declared.bounds.Bound.{Bound}
+use Rattle.span_core.specs.declared.bounds.Bound.TheVariants.{Closed, Open, Inf, Edge}
+use Rattle.expr_tokens.specs.declared.token.Operator.TheVariants as operators
+use Rattle.expr_grammar.specs.declared.syntax.SpanBound.{SpanBound}
+use Rattle.expr_grammar.specs.Form.{Form, Forms}
+use Rattle.expr_grammar.specs.Form as forms
+use Rattle.expr_grammar.specs.Nesting.{HasNoEmptyList, IsPrintable, IsPrintableForm, height, is_joined}
+use Rattle.expr_tree.specs.Sorts.{depth_of, judge, nodes_of, sort_of_tree, sort_with}
+use Rattle.expr_tree.specs.Tree.{Tree, Empty, Listed, Spanned, Union, Meet, Minus, Not, Trees}
+use Rattle.expr_tree.specs.WellFormed.{HasClock, IsWellFormed}
+use Rattle.expr_tree.specs.declared.sorting.Sort.{Sort}
+use Rattle.expr_tree.specs.declared.sorting.SortFault.{SortFault}
+use Rattle.expr_tree.specs.declared.sorting.SortFault.TheVariants as faults
+use Rattle.expr_text.specs.Accepted.{AreWellFormed, IsWellFormedSecond}
+use Rattle.expr_text.specs.Faults.{fault_of, sort_fault}
+use Rattle.expr_text.specs.Printing.{is_absolute, is_join}
+use Rattle.expr_text.specs.Trees.{bound_of, clock_of, stamps_of, tree_from, trees_from}
+
+abbrev pub stamp_at : Moment → Clock → Stamp
+stamp_at t clock = record { moment = t; absolute = is_absolute clock }
+
+abbrev pub written_bound : Bound → Clock → Option SpanBound
+written_bound (Closed t) clock = Some (record { closed = true; stamp = Some (stamp_at t clock) })
+written_bound (Open t) clock = Some (record { closed = false; stamp = Some (stamp_at t clock) })
+written_bound Inf clock = None
+written_bound Edge clock = None
+
+abbrev pub literals_of : List Stamp → List (Option Stamp)
+literals_of stamps = map (λ s. Some s) stamps
+
+abbrev pub written : Tree → Form
+written Empty = forms.Empty
+written (Listed stamps) = forms.Listed (literals_of stamps)
+written (Spanned bounds low high) = forms.Span (written_bound bounds.0 low) (written_bound bounds.1 high)
+written (Union a b) = forms.Joined operators.Union (written a) (written b)
+written (Meet a b) = forms.Joined operators.Meet (written a) (written b)
+written (Minus a b) = forms.Joined operators.Minus (written a) (written b)
+written (Not a) = forms.Inverse (written a)
+
+abbrev pub all_written : Trees → Forms
+all_written p = record { first = written p.first; second = option_map written p.second }
+
+stamps_back : (stamps : List Stamp) → stamps_of (literals_of stamps) ≡ stamps
+stamps_back [] = refl
+stamps_back (s ∷ ss) = ap (λ (x : List Stamp). s ∷ x) (stamps_back ss)
+
+pub bound_back : (b : Bound) (clock : Clock) → IsGiven b → bound_of (written_bound b clock) ≡ b
+bound_back (Closed t) clock h = refl
+bound_back (Open t) clock h = refl
+bound_back Inf clock h = refl
+bound_back Edge clock h = absurd h
+
+clock_back : (b : Bound) (clock : Clock) → IsGiven b → HasClock b clock → clock_of (written_bound b clock) ≡ clock
+clock_back (Closed t) Any h decided = let e = decided.1 refl in absurd cc
+clock_back (Closed t) Floating h decided = refl
+clock_back (Closed t) Absolute h decided = refl
+clock_back (Open t) Any h decided = let e = decided.1 refl in absurd cc
+clock_back (Open t) Floating h decided = refl
+clock_back (Open t) Absolute h decided = refl
+clock_back Inf clock h decided = sym (decided.0 refl)
+clock_back Edge clock h decided = absurd h
+
+span_back : (bounds : Bound × Bound) (low high : Clock) → IsGiven bounds.0 → IsGiven bounds.1 → HasClock bounds.0 low → HasClock bounds.1 high
+    → tree_from (forms.Span (written_bound bounds.0 low) (written_bound bounds.1 high)) ≡ Spanned bounds low high
+span_back bounds low high first second low_clock high_clock =
+    rw (bound_back bounds.0 low first, bound_back bounds.1 high second, clock_back bounds.0 low first low_clock, clock_back bounds.1 high second high_clock) refl
+
+-- what is written of a well-formed tree stands for it
+pub tree_back : (t : Tree) → IsWellFormed t → tree_from (written t) ≡ t
+tree_back Empty h = refl
+tree_back (Listed stamps) h = ap Listed (stamps_back stamps)
+tree_back (Spanned bounds low high) h = span_back bounds low high h.0.low_given h.0.high_given h.1 h.2
+tree_back (Union a b) h = ap (λ (x : Tree). Union x (tree_from (written b))) (tree_back a h.0) ∙ ap (Union a) (tree_back b h.1)
+tree_back (Meet a b) h = ap (λ (x : Tree). Meet x (tree_from (written b))) (tree_back a h.0) ∙ ap (Meet a) (tree_back b h.1)
+tree_back (Minus a b) h = ap (λ (x : Tree). Minus x (tree_from (written b))) (tree_back a h.0) ∙ ap (Minus a) (tree_back b h.1)
+tree_back (Not a) h = ap Not (tree_back a h)
+
+second_back : (o : Option Tree) → IsWellFormedSecond o → option_map tree_from (option_map written o) ≡ o
+second_back None h = refl
+second_back (Some t) h = ap (λ (x : Tree). Some x) (tree_back t h)
+
+pub trees_back : (p : Trees) → AreWellFormed p → trees_from (all_written p) ≡ p
+trees_back p h = rw (tree_back p.first h.0, second_back p.second h.1) refl
+
+pub joined_same : (t : Tree) → is_joined (written t) ≡ is_join t
+joined_same Empty = refl
+joined_same (Listed stamps) = refl
+joined_same (Spanned bounds low high) = refl
+joined_same (Union a b) = refl
+joined_same (Meet a b) = refl
+joined_same (Minus a b) = refl
+joined_same (Not a) = refl
+
+height_same : (t : Tree) → height (written t) ≡ depth_of t
+unfolding height
+height_same Empty = refl
+height_same (Listed stamps) = refl
+height_same (Spanned bounds low high) = refl
+height_same (Union a b) = rw (height_same a, height_same b) (omega arith)
+height_same (Meet a b) = rw (height_same a, height_same b) (omega arith)
+height_same (Minus a b) = rw (height_same a, height_same b) (omega arith)
+height_same (Not a) = rw (height_same a) (omega arith)
+
+no_empty_list : (t : Tree) → IsWellFormed t → HasNoEmptyList (written t)
+unfolding HasNoEmptyList
+no_empty_list Empty h = tt
+no_empty_list (Listed []) h = absurd (omega (arith, h.0))
+no_empty_list (Listed (s ∷ ss)) h = tt
+no_empty_list (Spanned bounds low high) h = tt
+no_empty_list (Union a b) h = (no_empty_list a h.0, no_empty_list b h.1)
+no_empty_list (Meet a b) h = (no_empty_list a h.0, no_empty_list b h.1)
+no_empty_list (Minus a b) h = (no_empty_list a h.0, no_empty_list b h.1)
+no_empty_list (Not a) h = no_empty_list a h
+
+not_below : (a b : ℕ) → nat_lt a b ≡ false → b ≤ a
+not_below a b e = grind (arith, nat_tests)
+
+-- a tree with a sort is at most 128 deep
+sorted_depth : (t : Tree) (s : Sort) → sort_of_tree t ≡ Ok s → depth_of t ≤ 128
+sorted_depth t s e =
+    let P : Bool → Type 0 = λ b. cond b (Err faults.Nodes) (cond (nat_lt 128 (depth_of t)) (Err faults.Depth) (sort_with t (judge t))) ≡ Ok s → depth_of t ≤ 128 in
+    let Q : Bool → Type 0 = λ b. nat_lt 128 (depth_of t) ≡ b → cond b (Err faults.Depth) (sort_with t (judge t)) ≡ Ok s → depth_of t ≤ 128 in
+    let inner : (b : Bool) → Q b = λ b. elim b as Q [ true ↦ λ is k. absurd cc | false ↦ λ is k. not_below 128 (depth_of t) is ] in
+    let go : (b : Bool) → P b = λ b. elim b as P [ true ↦ λ k. absurd cc | false ↦ λ k. inner (nat_lt 128 (depth_of t)) refl k ] in
+    go (nat_lt 1024 (nodes_of t)) e
+
+pub printable : (t : Tree) (s : Sort) → IsWellFormed t → sort_of_tree t ≡ Ok s → IsPrintableForm (written t)
+printable t s h e = (no_empty_list t h, rw (height_same t) (sorted_depth t s e))
+
+first_sorted : (r : Result Sort SortFault) (o : Option (Result Sort SortFault)) → fault_of r o ≡ None → (s : Sort) × (r ≡ Ok s)
+first_sorted (Ok s) o e = (s, refl)
+first_sorted (Err fault) o e = absurd cc
+
+second_sorted : (r x : Result Sort SortFault) → fault_of r (Some x) ≡ None → (s : Sort) × (x ≡ Ok s)
+second_sorted (Err fault) x e = absurd cc
+second_sorted (Ok s) (Err fault) e = absurd cc
+second_sorted (Ok s) (Ok other) e = (other, refl)
+
+both_printable : (t : Tree) (o : Option Tree) → AreWellFormed (record { first = t; second = o }) → sort_fault (record { first = t; second = o }) ≡ None → IsPrintable (all_written (record { first = t; second = o }))
+both_printable t None h e = let s = first_sorted (sort_of_tree t) None e in (printable t s.0 h.0 s.1, tt)
+both_printable t (Some u) h e =
+    let s = first_sorted (sort_of_tree t) (Some (sort_of_tree u)) e in
+    let other = second_sorted (sort_of_tree t) (sort_of_tree u) e in
+    (printable t s.0 h.0 s.1, printable u other.0 h.1 other.1)
+
+pub all_printable : (p : Trees) → AreWellFormed p → sort_fault p ≡ None → IsPrintable (all_written p)
+all_printable p h e = both_printable p.first p.second h e

@@ -1,0 +1,78 @@
+-- The printed form.
+use Rattle.std.specs.Prelude.{ℕ, Bool, true, false, ◌&&◌, List, [], ◌∷◌, ◌++◌, Option, Some, None, codes, if◌then◌else◌}
+use Rattle.std.specs.List.{flat_map}
+use Rattle.moment_core.specs.declared.line.Clock.{Clock}
+use Rattle.moment_core.specs.declared.line.Clock.TheVariants.{Absolute}
+use Rattle.moment_core.specs.declared.line.Moment.{Moment}
+use Rattle.moment_core.specs.declared.line.Stamp.{Stamp}
+use Rattle.moment_text.specs.Literal.{literal_of}
+use Rattle.span_core.specs.declared.bounds.Bound.{Bound}
+use Rattle.span_core.specs.declared.bounds.Bound.TheVariants.{Closed, Open, Inf, Edge}
+use Rattle.expr_tree.specs.Tree.{Tree, Empty, Listed, Spanned, Union, Meet, Minus, Not, Trees}
+
+-- operands that are themselves joined by an operator stand in brackets
+abbrev pub is_join : Tree → Bool
+is_join (Union a b) = true
+is_join (Meet a b) = true
+is_join (Minus a b) = true
+is_join t = false
+
+abbrev pub bracketed : Bool → List ℕ → List ℕ
+bracketed true text = codes "(" ++ text ++ codes ")"
+bracketed false text = text
+
+abbrev pub stamp_text : Stamp → List ℕ
+stamp_text s = literal_of s.moment.0 s.absolute
+
+abbrev pub next_stamp : Stamp → List ℕ
+next_stamp s = codes ", " ++ stamp_text s
+
+-- one comma and a space after each moment but the last
+abbrev pub stamps_text : List Stamp → List ℕ
+stamps_text [] = []
+stamps_text (s ∷ ss) = stamp_text s ++ flat_map next_stamp ss
+
+abbrev pub is_absolute : Clock → Bool
+is_absolute Absolute = true
+is_absolute clock = false
+
+abbrev pub moment_text : Moment → Clock → List ℕ
+moment_text t clock = literal_of t.0 (is_absolute clock)
+
+abbrev pub low_text : Bound → Clock → List ℕ
+low_text (Closed t) clock = codes "start " ++ moment_text t clock
+low_text (Open t) clock = codes "after " ++ moment_text t clock
+low_text Inf clock = []
+low_text Edge clock = []
+
+abbrev pub high_text : Bound → Clock → List ℕ
+high_text (Closed t) clock = codes "end " ++ moment_text t clock
+high_text (Open t) clock = codes "before " ++ moment_text t clock
+high_text Inf clock = []
+high_text Edge clock = []
+
+abbrev pub is_at_moment : Bound → Bool
+is_at_moment (Closed t) = true
+is_at_moment (Open t) = true
+is_at_moment Inf = false
+is_at_moment Edge = false
+
+abbrev pub comma_text : Bound → Bound → List ℕ
+comma_text low high = if is_at_moment low && is_at_moment high then codes ", " else []
+
+unfoldable pub print : Tree → List ℕ
+print Empty = codes "empty()"
+print (Listed stamps) = codes "{" ++ stamps_text stamps ++ codes "}"
+print (Spanned bounds low high) =
+    codes "span(" ++ low_text bounds.0 low ++ comma_text bounds.0 bounds.1 ++ high_text bounds.1 high ++ codes ")"
+print (Union a b) = bracketed (is_join a) (print a) ++ codes " | " ++ bracketed (is_join b) (print b)
+print (Meet a b) = bracketed (is_join a) (print a) ++ codes " & " ++ bracketed (is_join b) (print b)
+print (Minus a b) = bracketed (is_join a) (print a) ++ codes " - " ++ bracketed (is_join b) (print b)
+print (Not a) = codes "!" ++ bracketed (is_join a) (print a)
+
+abbrev pub print_second : Option Tree → List ℕ
+print_second None = []
+print_second (Some t) = codes " ; " ++ print t
+
+abbrev pub print_program : Trees → List ℕ
+print_program p = print p.first ++ print_second p.second
