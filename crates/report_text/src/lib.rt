@@ -1,0 +1,17 @@
+//! The lines of output, each with its line feed.
+//!
+//! A moment is written as its literal, with a `Z` on the absolute clock. A run is written as its bounds with ` .. `
+//! between them, a bracket at a closed bound and a parenthesis at an open one. A bound without a moment is `-inf` or
+//! `inf` where the run goes on for ever, and `-edge` or `edge` where nothing is said past the calendar range.
+#![tactic(auto)]
+
+mod lines;
+mod neighbours;
+mod pieces;
+
+pub use lines::Line;
+pub use moment_text::read_moment;
+pub use neighbours::line_near;
+
+#[cfg(test)]
+mod tests;
