@@ -1,5 +1,5 @@
 -- Trees as every text gives them.
-use Rattle.std.specs.Prelude.{◌≡◌, ◌<◌, ◌↔◌, All, List, length}
+use Rattle.std.specs.Prelude.{◌≡◌, ◌<◌, ◌↔◌, All, length}
 use Rattle.moment_core.specs.Line.{IsCalendarMoment}
 use Rattle.moment_core.specs.declared.line.Clock.{Clock}
 use Rattle.moment_core.specs.declared.line.Clock.TheVariants.{Any}

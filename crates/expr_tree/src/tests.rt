@@ -117,11 +117,17 @@ fn a_tree_has_at_most_1024_nodes_and_128_on_a_path(rt: HostRuntime) -> Result<()
         })
     };
     assert_eq!(rt; sort_of(&inverses(alloc, 127)?, &book), sized(128, 128));
-    assert_eq!(rt; sort_of(&inverses(alloc, 128)?, &book), Err(SortFault::Depth));
+    assert_eq!(rt;
+        sort_of(&inverses(alloc, 128)?, &book),
+        Err(SortFault::Depth)
+    );
     let full = inverse(alloc, unions(alloc, 9)?)?;
     assert_eq!(rt; sort_of(&full, &book), sized(11, 1024));
     let more = inverse(alloc, full)?;
     assert_eq!(rt; sort_of(&more, &book), Err(SortFault::Nodes));
-    assert_eq!(rt; sort_of(&inverses(alloc, 1024)?, &book), Err(SortFault::Nodes));
+    assert_eq!(rt;
+        sort_of(&inverses(alloc, 1024)?, &book),
+        Err(SortFault::Nodes)
+    );
     Ok(())
 }
