@@ -5,3 +5,4 @@ pub mod Moments
 pub mod Outcomes
 pub mod Written
 pub mod RoundTrip
+pub mod OneAnswer

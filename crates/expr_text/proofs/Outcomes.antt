@@ -6,7 +6,6 @@ use Rattle.expr_tokens.specs.declared.token.Token.{Token as Placed}
 use Rattle.expr_tokens.specs.Plain.{Token, plains}
 use Rattle.expr_tokens.specs.Reading.{AreFound, tokens_of}
 use Rattle.expr_grammar.specs.Form.{Forms}
-use Rattle.expr_grammar.proofs.Completeness.{Spells-unique}
 use Rattle.expr_tree.specs.Tree.{Trees, trees_of}
 use Rattle.expr_tree.specs.declared.tree.Program.{Program}
 use Rattle.expr_text.specs.declared.fault.TextFault.{TextFault}
@@ -45,14 +44,3 @@ accepted_is_well_formed ts trees range h = rw h.same (accepted_well_formed ts h.
 pub outcome_well_formed : (ts : List Placed) (r : Result Program TextFault) → AllByRecursion IsInRange (plains ts) → IsOutcome ts r → IfOk r (λ p. AreWellFormed (trees_of p))
 outcome_well_formed ts (Ok program) range h = accepted_is_well_formed (plains ts) (trees_of program) range h
 outcome_well_formed ts (Err fault) range h = tt
-
-same_tokens : {E : Type 0} (ts us : List Token) (r : Result (List Token) E) → r ≡ Ok ts → r ≡ Ok us → ts ≡ us
-same_tokens ts us r d e = cc
-
--- no text is accepted as two programs
-pub accepted_once : (text : List ℕ) (p q : Program) → IsAnswer text (Ok p) → IsAnswer text (Ok q) → trees_of p ≡ trees_of q
-accepted_once text p q h k =
-    let same : h.0 ≡ k.0 = same_tokens h.0 k.0 (tokens_of text) h.1.read k.1.read in
-    let first : AreAccepted k.0 (trees_of p) = subst (λ (ts : List Token). AreAccepted ts (trees_of p)) same h.2 in
-    let written : first.written ≡ k.2.written = Spells-unique first.written k.2.written k.0 first.moments.forms.spelled k.2.moments.forms.spelled in
-    first.same ∙ ap trees_from written ∙ sym k.2.same

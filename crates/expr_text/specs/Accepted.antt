@@ -63,7 +63,7 @@ pub record HaveSortFault (ts : List Token) (fault : SortFault) : Type 0 where
 abbrev pub IsTokenFault : List ℕ → ℕ → Type 0
 IsTokenFault text byte = (length text ≤ LONGEST) × (left : ℕ) × (reading_of text ≡ Err left) × (byte + left ≡ length text)
 
--- The answers of a reader. No two of them but Memory hold of one text, so each comes exactly where it holds.
+-- The answers of a reader: each says that its own phase fails and none before it. Memory may run out anywhere.
 abbrev pub IsAnswer : List ℕ → Result Program TextFault → Type 0
 IsAnswer text (Ok program) = (ts : List Token) × HasTokens text ts × AreAccepted ts (trees_of program)
 IsAnswer text (Err faults.Long) = LONGEST < length text
@@ -73,6 +73,17 @@ IsAnswer text (Err faults.Syntax) = (ts : List Token) × HasTokens text ts × Sp
 IsAnswer text (Err (faults.Moment byte)) = (ts : List Placed) × AreFound text ts × HasTokens text (plains ts) × HaveMomentFault ts byte
 IsAnswer text (Err (faults.Sort fault)) = (ts : List Token) × HasTokens text ts × HaveSortFault ts fault
 IsAnswer text (Err faults.Memory) = Unit {0}
+
+-- memory didn't run out
+abbrev pub IsTold : Result Program TextFault → Type 0
+IsTold (Ok program) = Unit {0}
+IsTold (Err fault) = fault ≡ faults.Memory → ⊥
+
+-- the same trees, or the same fault
+abbrev pub AreSame : Result Program TextFault → Result Program TextFault → Type 0
+AreSame (Ok p) (Ok q) = trees_of p ≡ trees_of q
+AreSame (Err fault) (Err other) = fault ≡ other
+AreSame r s = ⊥
 
 abbrev pub IsWellFormedSecond : Option Tree → Type 0
 IsWellFormedSecond None = Unit {0}

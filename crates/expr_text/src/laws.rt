@@ -1,6 +1,7 @@
-ghost use Rattle.std.specs.Prelude.{◌≡◌, ◌≤◌, ℕ, List, length, None, Ok};
-ghost use Rattle.expr_text.specs.Accepted.{AreWellFormed, IsAnswer, LONGEST};
+ghost use Rattle.std.specs.Prelude.{◌≡◌, ◌≤◌, ℕ, List, length, None, Ok, Result};
+ghost use Rattle.expr_text.specs.Accepted.{AreSame, AreWellFormed, IsAnswer, IsTold, LONGEST};
 ghost use Rattle.expr_text.specs.Faults.{sort_fault};
+ghost use Rattle.expr_text.specs.declared.fault.TextFault.{TextFault};
 ghost use Rattle.expr_text.specs.Printing.{print_program};
 ghost use Rattle.expr_tree.specs.Tree.{trees_of};
 ghost use Rattle.expr_tree.specs.declared.tree.Program.{Program as TheProgram};
@@ -15,7 +16,8 @@ pub fn printed_is_read()
     literal_laws();
 }
 
-/// No text is read as two programs.
-pub fn one_reading()
-    ensures { (text : List ℕ) (p q : TheProgram) → IsAnswer text (Ok p) → IsAnswer text (Ok q) → trees_of p ≡ trees_of q }
+/// Each text has one answer, if memory doesn't run out: one pair of trees, or one fault at one place.
+pub fn one_answer()
+    ensures { (text : List ℕ) (r s : Result TheProgram TextFault) → IsAnswer text r → IsAnswer text s
+        → IsTold r → IsTold s → AreSame r s }
 {}

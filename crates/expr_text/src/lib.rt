@@ -9,7 +9,7 @@ mod printing;
 mod reading;
 
 pub use fault::TextFault;
-pub use laws::{one_reading, printed_is_read};
+pub use laws::{one_answer, printed_is_read};
 pub use printing::{write_expr, write_program};
 pub use reading::read_program;
 
