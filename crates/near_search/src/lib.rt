@@ -1,0 +1,8 @@
+//! The neighbours of a moment among the runs of a set, found by the plain search.
+#![tactic(auto)]
+
+mod laws;
+mod neighbours;
+
+pub use laws::next_laws;
+pub use neighbours::next;
