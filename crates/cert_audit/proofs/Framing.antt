@@ -1,6 +1,5 @@
 -- Every tree repeats by its frame.
-use Rattle.std.proofs.Common.{◌≡◌, refl, ap, sym, ◌∙◌, arith, ℕ, ◌<◌, ◌≤◌, suc, ℤ, pos, ◌+ℤ◌, ◌-ℤ◌, ◌≤ℤ◌, Bool, true, false, not, ◌&&◌, ◌||◌, List, [], ◌∷◌, length, get_or, drop, Option, Some, None, IfSome, int_le, lit≤}
-use Rattle.std.proofs.Math.Seq.{drop-cons}
+use Rattle.std.proofs.Common.{◌≡◌, refl, ap, sym, ◌∙◌, arith, ℤ, pos, ◌+ℤ◌, ◌-ℤ◌, ◌≤ℤ◌, Bool, true, false, not, ◌&&◌, ◌||◌, List, [], ◌∷◌, Option, Some, None, IfSome, int_le, lit≤}
 use Rattle.std.proofs.lemmas.Bool.{and_from, and_left, and_right, or_from}
 use Rattle.std.proofs.lemmas.Int.{clamps, ints}
 use Rattle.std.specs.Int.{int_max, int_min}
@@ -8,7 +7,6 @@ use Rattle.std.specs.Ordering.{int_eq}
 use Rattle.moment_core.specs.Line.{position_of}
 use Rattle.moment_core.specs.declared.line.Pos.{Pos}
 use Rattle.moment_core.specs.declared.line.Stamp.{Stamp}
-use Rattle.moment_core.specs.declared.line.TheConstants.{WIDTH}
 use Rattle.span_core.specs.Bounds.{ends_after, first_from, last_to, lies_between, reaches}
 use Rattle.span_core.specs.declared.bounds.Bound.{Bound}
 use Rattle.span_core.proofs.Stretches.{ends_after-all, ends_after-to, reaches-all, reaches-from}
@@ -17,7 +15,7 @@ use Rattle.frame_core.specs.declared.frames.Frame.{Frame}
 use Rattle.frame_core.proofs.Repeating.{Repeats-apart, Repeats-constant, Repeats-join, join_of-IsPeriod}
 use Rattle.expr_tree.specs.Members.{is_listed, is_member}
 use Rattle.expr_tree.specs.Tree.{Tree, Empty, Listed, Spanned, Union, Meet, Minus, Not}
-use Rattle.cert_audit.specs.TreeFrames.{bottom, earliest_of, frame_from, frame_of_tree, join_framed, latest_of, list_frame, span_frame, span_hi, span_lo, top}
+use Rattle.cert_audit.specs.TreeFrames.{bottom, earliest_of, frame_from, frame_of_tree, join_framed, latest_of, list_frame, span_hi, span_lo, top}
 
 -- a set that has one value from `hi` upwards and one from `lo` downwards
 repeats_unchanged : (set : ℤ → Bool) (hi lo : ℤ) (v w : Bool) → ((p : ℤ) → hi ≤ℤ p → set p ≡ v) → ((p : ℤ) → p ≤ℤ lo → set p ≡ w) → Repeats set (frame_from hi lo)

@@ -1,11 +1,11 @@
 -- A search that goes from turn to turn.
-use Rattle.std.proofs.Common.{◌≡◌, refl, ap, sym, subst, ◌∙◌, inl, inr, arith, ℕ, suc, ◌+◌, ◌-◌, ◌*◌, ◌<◌, ◌≤◌, ℤ, pos, ◌+ℤ◌, ◌-ℤ◌, ◌≤ℤ◌, unsigned_abs, Bool, true, false, not, ◌&&◌, ◌||◌, int_le, Option, Some, None, IfSome, if◌then◌else◌, int_lt}
+use Rattle.std.proofs.Common.{◌≡◌, refl, ap, sym, subst, ◌∙◌, inl, inr, arith, ℕ, ◌+◌, ◌-◌, ◌<◌, ◌≤◌, ℤ, pos, ◌+ℤ◌, ◌-ℤ◌, ◌≤ℤ◌, unsigned_abs, Bool, true, false, not, ◌&&◌, ◌||◌, int_le, Option, Some, None, IfSome, if◌then◌else◌}
 use Rattle.std.proofs.Math.Bool.{beq}
-use Rattle.std.proofs.lemmas.Bool.{and_parts, cases_lt, cases_order, or_cases, both_ways}
+use Rattle.std.proofs.lemmas.Bool.{cases_lt, cases_order, or_cases}
 use Rattle.std.proofs.lemmas.Int.{clamps, ints}
 use Rattle.std.specs.Ordering.{int_eq}
-use Rattle.moment_core.specs.Line.{IsCalendarPosition, moment_of, position_of}
-use Rattle.moment_core.specs.Sets.{ahead, seen, DiffersFirst, IsNextChange, StaysInRange}
+use Rattle.moment_core.specs.Line.{IsCalendarPosition, position_of}
+use Rattle.moment_core.specs.Sets.{ahead, seen, IsNextChange}
 use Rattle.moment_core.specs.declared.line.Dir.{Dir}
 use Rattle.moment_core.specs.declared.line.Dir.TheVariants.{Fore, Back}
 use Rattle.moment_core.specs.declared.line.Pos.{Pos}
@@ -14,10 +14,9 @@ use Rattle.moment_core.specs.declared.line.Window.{Window}
 use Rattle.span_core.specs.Answers.{IsAnswer, IsFound, IsUpTo, StopsAt, counted_to, end_of}
 use Rattle.span_core.specs.declared.answers.Answer.{Answer}
 use Rattle.span_core.specs.declared.answers.Answer.TheVariants.{At, None as Never, Edge, Budget}
-use Rattle.span_core.specs.declared.answers.Stop.{Stop}
 use Rattle.span_core.proofs.Runs.{halves}
 use Rattle.span_core.proofs.Searches.{ahead-zero, seen-zero}
-use Rattle.frame_core.specs.Frames.{IsPeriod, Repeats, RepeatsIfFramed, in_calendar, repeats_by, repeats_from, window_after, window_if_framed}
+use Rattle.frame_core.specs.Frames.{IsPeriod, RepeatsIfFramed, in_calendar, repeats_by, repeats_from, window_after, window_if_framed}
 use Rattle.frame_core.specs.declared.frames.Frame.{Frame}
 use Rattle.frame_core.proofs.Repeating.{ahead-ahead, in_calendar-is, keeps}
 use Rattle.expr_tree.specs.Members.{is_member}
@@ -25,7 +24,7 @@ use Rattle.expr_tree.specs.Tree.{Tree}
 use Rattle.cert_audit.specs.Candidates.{candidates, is_candidate}
 use Rattle.cert_audit.specs.Searches.{passed_by, unchanged}
 use Rattle.cert_audit.specs.TreeFrames.{frame_of_tree}
-use Rattle.cert_audit.specs.Turns.{IsTurn, TurnsAfter, candidate_at, is_past}
+use Rattle.cert_audit.specs.Turns.{IsTurn, candidate_at, is_past}
 use Rattle.cert_audit.proofs.Counting.{candidates-backwards, candidates-onwards, candidates-some, candidates-within}
 use Rattle.cert_audit.proofs.Framing.{tree_period, tree_repeats}
 
@@ -131,8 +130,7 @@ visit t dir p end place passed more q v turn near same is =
           let so_far : passed ≤ counted_to (candidates t) dir p n = v.1.counted in
           omega arith
     ] in
-    let M : ℕ → Type 0 = λ z. z ≤ counted_to (candidates t) dir p far in
-    (
+    let M : ℕ → Type 0 = λ z. z ≤ counted_to (candidates t) dir p far in (
       far,
       record {
         place_is = there;
@@ -176,8 +174,7 @@ changes t dir p end place passed q v turn differs =
     let further = λ (j : ℕ). ap (λ z. ahead dir z j) v.1.place_is ∙ ahead-ahead dir p n j in
     let here : set place ≡ set p = ap set v.1.place_is ∙ v.1.stays n (omega arith) in
     let there : q.0 ≡ ahead dir p far = turn.1 ∙ further (m + 1) in
-    let start : seen set dir p 0 ≡ set p = seen-zero set dir p in
-    (
+    let start : seen set dir p 0 ≡ set p = seen-zero set dir p in (
       far,
       there,
       record {
@@ -312,8 +309,7 @@ before_answer set window dir p end place n e stays f near (Budget s) found = abs
 pub stops : (t : Tree) (window : Option Window) (dir : Dir) (p end : ℤ) (passed budget : ℕ) (place : Pos) → window ≡ window_if_framed (frame_of_tree t) dir p → end ≡ end_of dir (unchanged window) → HasVisited t dir p end place.0 passed → 1 ≤ budget → budget ≤ passed → IsCalendarPosition place.0 → (n : ℕ) × StopsAt (is_member t) (candidates t) (window_if_framed (frame_of_tree t) dir p) dir p budget (record { at = place; node = 0 }) n
 stops t window dir p end passed budget place e f v some used here =
     let n = v.0 in
-    let W : Option Window → Type 0 = λ o. (a : Answer) → IsFound (is_member t) o dir p a → IsUpTo dir (end_of dir a) place.0 in
-    (
+    let W : Option Window → Type 0 = λ o. (a : Answer) → IsFound (is_member t) o dir p a → IsUpTo dir (end_of dir a) place.0 in (
       n,
       record {
         search = refl;

@@ -1,5 +1,5 @@
 -- The nearest place at which a set may change, made of the places of its parts.
-use Rattle.std.proofs.Common.{◌≡◌, refl, ap, sym, subst, ◌∙◌, inl, inr, arith, ℕ, suc, ◌+◌, ◌-◌, ◌<◌, ◌≤◌, ℤ, pos, negsuc, ◌+ℤ◌, ◌-ℤ◌, ◌≤ℤ◌, ◌<ℤ◌, unsigned_abs, Bool, true, false, not, ◌&&◌, ◌||◌, int_le, List, [], ◌∷◌, ◌++◌, length, get_or, take, add-one, Option, Some, None, int_lt}
+use Rattle.std.proofs.Common.{◌≡◌, refl, ap, sym, subst, ◌∙◌, arith, ℕ, ◌+◌, ◌<◌, ◌≤◌, ℤ, pos, ◌+ℤ◌, ◌-ℤ◌, ◌≤ℤ◌, ◌<ℤ◌, unsigned_abs, Bool, true, false, not, ◌&&◌, ◌||◌, int_le, List, [], ◌∷◌, ◌++◌, length, get_or, take, add-one, Option, Some, None}
 use Rattle.std.proofs.Math.Seq.{take-suc}
 use Rattle.std.proofs.lemmas.Int.{ints}
 use Rattle.std.proofs.lemmas.List.{take_all}
@@ -18,7 +18,7 @@ use Rattle.span_core.proofs.Runs.{halves}
 use Rattle.span_core.proofs.Stretches.{ends_after-to, reaches-from}
 use Rattle.expr_tree.specs.Members.{is_listed}
 use Rattle.cert_audit.specs.Candidates.{is_bound_at}
-use Rattle.cert_audit.specs.Turns.{IsTurn, TurnsAfter, candidate_at, is_past}
+use Rattle.cert_audit.specs.Turns.{IsTurn, candidate_at, is_past}
 
 pub IsTurn-same : (f g x y : ℤ → Bool) (dir : Dir) (p : ℤ) (o : Option Pos) → ((q : ℤ) → f q ≡ g q) → ((q : ℤ) → x q ≡ true → y q ≡ true) → IsTurn f x dir p o → IsTurn g y dir p o
 IsTurn-same f g x y dir p (Some q) e h r = (

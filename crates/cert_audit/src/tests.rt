@@ -81,7 +81,12 @@ fn inverse(alloc: Global, a: Expr) -> Result<Expr, AllocError>
     Ok(Expr::Not(Box::new(alloc, a)?))
 }
 
-fn make<'b>(rt: &impl Abort, alloc: Global, e: &Expr, book: &'b Book) -> Result<Ready<'b>, PlanFault>
+fn make<'b>(
+    rt: &impl Abort,
+    alloc: Global,
+    e: &Expr,
+    book: &'b Book,
+) -> Result<Ready<'b>, PlanFault>
     requires { IsWellFormed (tree_of e.now) }
 {
     assert!(rt; sort_of(e, book).is_ok());
@@ -95,7 +100,14 @@ fn is_in_range(p: Pos) -> bool
 }
 
 /// What a search at the position answers, and whether the position is a member.
-fn search<L: Ledger>(rt: &impl Abort, r: &Ready, p: Pos, dir: Dir, budget: u64, blank: Blank) -> (Answer, Test)
+fn search<L: Ledger>(
+    rt: &impl Abort,
+    r: &Ready,
+    p: Pos,
+    dir: Dir,
+    budget: u64,
+    blank: Blank,
+) -> (Answer, Test)
     requires name { blank.name ≡ L.name }
     requires parts { blank.parts ≡ L.parts }
     requires some { 0 < blank.parts }
@@ -107,11 +119,25 @@ fn search<L: Ledger>(rt: &impl Abort, r: &Ready, p: Pos, dir: Dir, budget: u64, 
 }
 
 fn answer(rt: &impl Abort, r: &Ready, p: Pos, dir: Dir, budget: u64) -> Answer {
-    search::<Brand>(rt, r, p, dir, budget, Blank::new(1)).0
+    let blank = Blank::new(1);
+    search::<Brand>(rt, r, p, dir, budget, blank).0
 }
 
 fn member(rt: &impl Abort, r: &Ready, p: Pos) -> bool {
-    search::<Brand>(rt, r, p, Dir::Fore, 1, Blank::new(1)).1 == Test::In
+    let blank = Blank::new(1);
+    search::<Brand>(rt, r, p, Dir::Fore, 1, blank).1 == Test::In
+}
+
+/// The position so many steps on.
+fn ahead(p: Pos, dir: Dir, steps: u32) -> Pos
+    requires p { IsCalendarPosition p.0 }
+    requires steps { steps < 100 }
+{
+    let away = i64::from(steps);
+    match dir {
+        Dir::Fore => Pos(p.0 + away),
+        Dir::Back => Pos(p.0 - away),
+    }
 }
 
 /// The nearest position within 60 steps whose membership differs, found by asking each one.
@@ -119,11 +145,8 @@ fn nearest_asked(rt: &impl Abort, r: &Ready, p: Pos, dir: Dir) -> Option<Pos>
     requires { IsCalendarPosition p.0 }
 {
     let here = member(rt, r, p);
-    for k in 1..61 {
-        let q = match dir {
-            Dir::Fore => Pos(p.0 + k),
-            Dir::Back => Pos(p.0 - k),
-        };
+    for steps in 1..61 {
+        let q = ahead(p, dir, steps);
         if is_in_range(q) && member(rt, r, q) != here {
             return Some(q);
         }
@@ -132,20 +155,30 @@ fn nearest_asked(rt: &impl Abort, r: &Ready, p: Pos, dir: Dir) -> Option<Pos>
 }
 
 /// Searches from 32 positions on, both ways, find what asking each position finds.
-fn agrees(rt: &impl Abort, alloc: Global, book: &Book, set: Expr, first: Pos) -> Result<(), PlanFault>
+fn agrees(
+    rt: &impl Abort,
+    alloc: Global,
+    book: &Book,
+    set: Expr,
+    first: Pos,
+) -> Result<(), PlanFault>
     requires set { IsWellFormed (tree_of set) }
     requires first { IsCalendarPosition first.0 }
 {
     let ready = make(rt, alloc, &set, book)?;
-    for k in 0..32 {
-        let p = Pos(first.0 + k);
+    for steps in 0..32 {
+        let p = ahead(first, Dir::Fore, steps);
         if is_in_range(p) {
             for dir in [Dir::Fore, Dir::Back] {
                 let found = match answer(rt, &ready, p, dir, 1000) {
                     Answer::At(q) => Some(q),
                     _ => None,
                 };
-                assert_eq!(rt; found, nearest_asked(rt, &ready, p, dir), "{dir:?} from {p:?}");
+                assert_eq!(rt;
+                    found,
+                    nearest_asked(rt, &ready, p, dir),
+                    "{dir:?} from {p:?}"
+                );
             }
         }
     }
@@ -172,7 +205,11 @@ fn all_but_one_moment(rt: HostRuntime) -> Result<(), Fail> {
         ),
     ];
     for (from, want) in rows {
-        assert_eq!(rt; answer(&rt, &ready, Pos(from), Dir::Fore, 100), want, "from {from}");
+        assert_eq!(rt;
+            answer(&rt, &ready, Pos(from), Dir::Fore, 100),
+            want,
+            "from {from}"
+        );
     }
     let frame = Frame {
         lo: Pos(p - 1),
@@ -181,12 +218,17 @@ fn all_but_one_moment(rt: HostRuntime) -> Result<(), Fail> {
     };
     assert_eq!(rt; frame_of(&ready), Some(frame));
     let none = make(&rt, alloc, &Expr::Empty, &book)?;
-    assert_eq!(rt; answer(&rt, &none, Pos(2 * HIGH), Dir::Fore, 100), Answer::Edge);
+    assert_eq!(rt;
+        answer(&rt, &none, Pos(2 * HIGH), Dir::Fore, 100),
+        Answer::Edge
+    );
     Ok(())
 }
 
 #[test]
-fn a_search_stops_once_the_candidates_are_as_many_as_the_budget(rt: HostRuntime) -> Result<(), Fail> {
+fn a_search_stops_once_the_candidates_are_as_many_as_the_budget(
+    rt: HostRuntime,
+) -> Result<(), Fail> {
     let alloc = rt.alloc();
     let book = Book::empty(alloc);
     let moments = list(alloc, Moment(0), Moment(10))?;
@@ -197,7 +239,10 @@ fn a_search_stops_once_the_candidates_are_as_many_as_the_budget(rt: HostRuntime)
         at: Pos(0),
         node: 0,
     };
-    assert_eq!(rt; answer(&rt, &ready, Pos(-5), Dir::Fore, 1), Answer::Budget(stop));
+    assert_eq!(rt;
+        answer(&rt, &ready, Pos(-5), Dir::Fore, 1),
+        Answer::Budget(stop)
+    );
     let never = Answer::None(Window {
         lo: Pos(21),
         hi: Pos(23),
@@ -233,7 +278,13 @@ fn so_it_does_at_both_ends_of_the_range(rt: HostRuntime) -> Result<(), Fail> {
     let book = Book::empty(alloc);
     let above = span(Bound::Closed(Moment(HIGH - 3)), Bound::Inf)?;
     let last = list(alloc, Moment(HIGH - 1), Moment(HIGH))?;
-    agrees(&rt, alloc, &book, minus(alloc, above, last)?, Pos(2 * HIGH - 12))?;
+    agrees(
+        &rt,
+        alloc,
+        &book,
+        minus(alloc, above, last)?,
+        Pos(2 * HIGH - 12),
+    )?;
     let below = span(Bound::Inf, Bound::Open(Moment(LOW + 1)))?;
     let first = list(alloc, Moment(LOW), Moment(LOW + 2))?;
     agrees(&rt, alloc, &book, union(alloc, below, first)?, Pos(2 * LOW))?;

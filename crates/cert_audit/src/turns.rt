@@ -111,13 +111,7 @@ fn crossing(first: Pos, p: Pos, dir: Dir) -> Option<Pos>
     ensures { IsTurn (λ q. int_le first.0 q) (λ q. int_eq (position_of (moment_of first.0)) q) dir p.0 result }
 {
     match dir {
-        Dir::Fore => {
-            if p < first {
-                Some(first)
-            } else {
-                None
-            }
-        }
+        Dir::Fore => { if p < first { Some(first) } else { None } }
         Dir::Back => {
             if first <= p {
                 Some(one_before(first))

@@ -8,8 +8,8 @@ use Rattle.cert_audit.proofs.search.sweep.Goals as goal
 pub turns-init : goal.turns-init
 turns-init g c = record {
   visited = at_start (tree_of_ready c.args.r.now) c.args.dir c.args.p.0 c.search_end-end.result.0
-    (end_is (frame_of_ready c.args.r.now) c.window_of-window.result c.args.dir c.args.p.0 c.search_end-end.result.0
-    c.requires.range c.window_of-window.ensures c.search_end-end.ensures).0;
+      (end_is (frame_of_ready c.args.r.now) c.window_of-window.result c.args.dir c.args.p.0 c.search_end-end.result.0
+      c.requires.range c.window_of-window.ensures c.search_end-end.ensures).0;
   room = omega (arith, c.requires.budget);
 }
 
@@ -24,13 +24,13 @@ returns-in_default-clause-answer g c =
 pub returns-then-there-here-clause-answer : goal.returns-then-there-here-clause-answer
 returns-then-there-here-clause-answer g c = (
   changes (tree_of_ready c.args.r.now) c.args.dir c.args.p.0 c.search_end-end.result.0 c.turns.place.0 c.turns.passed c.in-Some.next
-    c.turns.invariant.visited c.in-Some.ensures.turn
-    (turned c.holds-there.result c.holds-here.result (is_member (tree_of_ready c.args.r.now) c.in-Some.next.0) (is_member (tree_of_ready c.args.r.now) c.args.p.0)
-    c.holds-there.ensures c.holds-here.ensures c.if-there-here.true),
+      c.turns.invariant.visited c.in-Some.ensures.turn
+      (turned c.holds-there.result c.holds-here.result (is_member (tree_of_ready c.args.r.now) c.in-Some.next.0) (is_member (tree_of_ready c.args.r.now) c.args.p.0)
+      c.holds-there.ensures c.holds-here.ensures c.if-there-here.true),
   turn_in_range (tree_of_ready c.args.r.now) c.args.dir c.args.p.0 c.search_end-end.result.0 c.turns.place.0 c.turns.passed c.in-Some.next
-    c.turns.invariant.visited c.in-Some.ensures.turn c.in-Some.ensures.some c.requires.range
-    (end_is (frame_of_ready c.args.r.now) c.window_of-window.result c.args.dir c.args.p.0 c.search_end-end.result.0
-    c.requires.range c.window_of-window.ensures c.search_end-end.ensures).1,
+      c.turns.invariant.visited c.in-Some.ensures.turn c.in-Some.ensures.some c.requires.range
+      (end_is (frame_of_ready c.args.r.now) c.window_of-window.result c.args.dir c.args.p.0 c.search_end-end.result.0
+      c.requires.range c.window_of-window.ensures c.search_end-end.ensures).1,
 )
 
 pub with_candidate-passed-requires-clause-room : goal.with_candidate-passed-requires-clause-room
@@ -66,9 +66,9 @@ turns-smaller g c =
 pub turns-preserved : goal.turns-preserved
 turns-preserved g c = record {
   visited = visit (tree_of_ready c.args.r.now) c.args.dir c.args.p.0 c.search_end-end.result.0 c.turns.place.0 c.turns.passed c.with_candidate-passed.result c.in-Some.next
-    c.turns.invariant.visited c.in-Some.ensures.turn c.in-Some.ensures.some
-    (kept c.holds-there.result c.holds-here.result (is_member (tree_of_ready c.args.r.now) c.in-Some.next.0) (is_member (tree_of_ready c.args.r.now) c.args.p.0)
-    c.holds-there.ensures c.holds-here.ensures c.if-there-here.false)
-    c.with_candidate-passed.ensures;
+      c.turns.invariant.visited c.in-Some.ensures.turn c.in-Some.ensures.some
+      (kept c.holds-there.result c.holds-here.result (is_member (tree_of_ready c.args.r.now) c.in-Some.next.0) (is_member (tree_of_ready c.args.r.now) c.args.p.0)
+      c.holds-there.ensures c.holds-here.ensures c.if-there-here.false)
+      c.with_candidate-passed.ensures;
   room = c.if-budget-passed.false;
 }

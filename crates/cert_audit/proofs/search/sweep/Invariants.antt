@@ -1,4 +1,4 @@
-use Rattle.std.proofs.Common.{◌<◌, ◌≤◌}
+use Rattle.std.proofs.Common.{◌<◌}
 use Rattle.cert_audit.specs.Lowered.{tree_of_ready}
 use Rattle.cert_audit.proofs.Sweeping.{HasVisited, steps_left}
 use Rattle.cert_audit.proofs.search.sweep.Given as goal
