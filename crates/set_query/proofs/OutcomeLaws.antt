@@ -15,8 +15,11 @@ use Rattle.moment_core.proofs.FloorLemmas.{floor_arith}
 use Rattle.moment_text.specs.Laws.{LiteralsTellMomentsApart}
 use Rattle.moment_text.specs.Literal.{literal_of}
 use Rattle.set_query.specs.Laws.{OutcomesAreUnique, OutcomesExist}
-use Rattle.set_query.specs.Report.{Outcome, IsOutcome, IsNextLine, answered, refused, found, edge, other_words, other_text, next}
-use Rattle.set_query.specs.Texts.{AsksNext, IsLine, SpellsMonthly, is_monthly, monthly_text}
+use Rattle.expr_text.specs.Printing.{print_program}
+use Rattle.set_query.specs.Report.{Outcome, IsOutcome, IsNextLine, answered, refused, refused_by, found, edge, other_words, other_text, next, shown, faulty}
+use Rattle.set_query.specs.Texts.{AsksNext, AsksShow, IsLine, SpellsMonthly, is_monthly, monthly_text}
+use Rattle.set_query.proofs.OutcomeLemmas.{asks_one}
+use Rattle.set_query.proofs.ReadingLaws.{one_program, no_fault, one_fault_line}
 use Rattle.set_query.proofs.TextLemmas.{one_digits}
 
 -- a run begins first at one place
@@ -71,19 +74,35 @@ one_day text a b h k =
     decimal_injective a b (omega (arith, h.in_month.1)) (omega (arith, k.in_month.1)) (one_digits text (decimal a) (decimal b) h.text_is k.text_is)
 
 pub outcomes_are_unique : LiteralsTellMomentsApart → OutcomesAreUnique
-outcomes_are_unique apart words text a b (other_words none) (other_words also) = refl
-outcomes_are_unique apart words text a b (other_words none) (other_text at asks other) = absurd (none at asks)
-outcomes_are_unique apart words text a b (other_words none) (next at day line asks s is) = absurd (none at asks)
-outcomes_are_unique apart words text a b (other_text at asks other) (other_words none) = absurd (none at asks)
+outcomes_are_unique apart words text a b (other_words none no_show) (other_words also no_show_b) = refl
+outcomes_are_unique apart words text a b (other_words none no_show) (other_text at asks other) = absurd (none at asks)
+outcomes_are_unique apart words text a b (other_words none no_show) (next at day line asks s is) = absurd (none at asks)
+outcomes_are_unique apart words text a b (other_words none no_show) (shown trees show is) = absurd (no_show show)
+outcomes_are_unique apart words text a b (other_words none no_show) (faulty fault line show is e) = absurd (no_show show)
+outcomes_are_unique apart words text a b (other_text at asks other) (other_words none no_show) = absurd (none at asks)
 outcomes_are_unique apart words text a b (other_text at asks other) (other_text at_b asks_b also) = refl
 outcomes_are_unique apart words text a b (other_text at asks other) (next at_b day line asks_b s is) = absurd (other day s)
-outcomes_are_unique apart words text a b (next at day line asks s is) (other_words none) = absurd (none at asks)
+outcomes_are_unique apart words text a b (other_text at asks other) (shown trees show is) = absurd (asks_one words at asks show)
+outcomes_are_unique apart words text a b (other_text at asks other) (faulty fault line show is e) = absurd (asks_one words at asks show)
+outcomes_are_unique apart words text a b (next at day line asks s is) (other_words none no_show) = absurd (none at asks)
 outcomes_are_unique apart words text a b (next at day line asks s is) (other_text at_b asks_b other) = absurd (other day s)
 outcomes_are_unique apart words text a b (next at day line asks s is) (next at_b day_b line_b asks_b s_b is_b) =
     let moment : at_b ≡ at = one_moment apart words at_b at asks_b asks in
     let days : day_b ≡ day = one_day text day_b day s_b s in
     let moved = subst (λ d. IsNextLine (moments_in (is_monthly d)) at line_b) days (subst (λ t. IsNextLine (moments_in (is_monthly day_b)) t line_b) moment is_b) in
     ap answered (one_line (moments_in (is_monthly day)) at is moved)
+outcomes_are_unique apart words text a b (next at day line asks s is) (shown trees show read) = absurd (asks_one words at asks show)
+outcomes_are_unique apart words text a b (next at day line asks s is) (faulty fault line_b show read e) = absurd (asks_one words at asks show)
+outcomes_are_unique apart words text a b (shown trees show is) (other_words none no_show) = absurd (no_show show)
+outcomes_are_unique apart words text a b (shown trees show is) (other_text at asks other) = absurd (asks_one words at asks show)
+outcomes_are_unique apart words text a b (shown trees show is) (next at day line asks s is_b) = absurd (asks_one words at asks show)
+outcomes_are_unique apart words text a b (shown trees show is) (shown trees_b show_b is_b) = ap (λ t. answered (print_program t)) (one_program text trees trees_b is is_b)
+outcomes_are_unique apart words text a b (shown trees show is) (faulty fault line show_b is_b e) = absurd (no_fault text trees fault is is_b line e)
+outcomes_are_unique apart words text a b (faulty fault line show is e) (other_words none no_show) = absurd (no_show show)
+outcomes_are_unique apart words text a b (faulty fault line show is e) (other_text at asks other) = absurd (asks_one words at asks show)
+outcomes_are_unique apart words text a b (faulty fault line show is e) (next at day line_b asks s is_b) = absurd (asks_one words at asks show)
+outcomes_are_unique apart words text a b (faulty fault line show is e) (shown trees show_b is_b) = absurd (no_fault text trees fault is_b is line e)
+outcomes_are_unique apart words text a b (faulty fault line show is e) (faulty fault_b line_b show_b is_b e_b) = ap refused_by (one_fault_line text fault fault_b line line_b is is_b e e_b)
 
 -- the least of the numbers below n that pass, or that none does
 first_or_none : (p : ℕ → Bool) (n : ℕ) → ((k : ℕ) × (k < n) × (p k ≡ true) × ((j : ℕ) → j < k → p j ≡ false)) ⊎ ((k : ℕ) → k < n → p k ≡ false)
@@ -203,10 +222,10 @@ begins_or_not set at range =
         by_value false e = absurd (true≢false (sym (and_from (seen set Fore (position_of at) (j + 1)) (not (seen set Fore (position_of at) j)) is (ap not e)) ∙ out))
 
 pub outcomes_exist : OutcomesExist
-outcomes_exist words text =
+outcomes_exist words text no_show =
     elim (asks_or_not words) [
       | inl a ↦ over a.0 a.1
-      | inr none ↦ (refused, other_words none)
+      | inr none ↦ (refused, other_words none no_show)
     ]
   where
     over : (at : ℤ) → AsksNext words at → (o : Outcome) × IsOutcome words text o

@@ -36,6 +36,12 @@ pair_of (x ∷ []) a b h k e f = absurd (omega arith)
 pair_of (x ∷ y ∷ []) a b h k e f = grind (arith, common_steps)
 pair_of (x ∷ y ∷ z ∷ xs) a b h k e f = absurd (omega arith)
 
+-- a list of one
+pub single_of : {A : Type 0} (xs : List A) (a : A) → 1 ≤ length xs → length xs < 2 → a ≡ get_or xs 0 a → xs ≡ a ∷ []
+single_of [] a h k e = absurd (omega arith)
+single_of (x ∷ []) a h k e = grind (arith, common_steps)
+single_of (x ∷ y ∷ xs) a h k e = absurd (omega arith)
+
 pub asks_by : (words : List (List ℕ)) (word : List ℕ) (at : Option Moment) → words ≡ codes "next" ∷ word ∷ [] → IfSome at (λ t. IsAt word t.0) → IfSome at (λ t. AsksNext words t.0)
 asks_by words word None e h = tt
 asks_by words word (Some t) e h = record { word = word; words_are = e; tells = h }

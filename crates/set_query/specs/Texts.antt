@@ -1,6 +1,9 @@
 -- The words and the texts that are answered, as bytes.
 use Rattle.std.specs.Prelude.{◌≡◌, ◌⊎◌, ◌++◌, ◌∷◌, [], ℕ, ℤ, Bool, false, ◌&&◌, ◌==◌, List, codes, decimal}
 use Rattle.std.specs.Int.{IsInRange}
+use Rattle.expr_text.specs.Accepted.{AreAccepted, HasTokens}
+use Rattle.expr_tokens.specs.Plain.{Token}
+use Rattle.expr_tree.specs.Tree.{Trees}
 use Rattle.moment_core.specs.Calendar.{day_of_month}
 use Rattle.moment_core.specs.Line.{IsCalendarMoment}
 use Rattle.moment_core.specs.TimeOfDay.{day_of, second_of_day}
@@ -16,6 +19,10 @@ pub record AsksNext (words : List (List ℕ)) (at : ℤ) : Type 0 where
   pub word : List ℕ
   pub words_are : words ≡ codes "next" ∷ word ∷ []
   pub tells : IsAt word at
+
+-- the word `show` alone
+abbrev pub AsksShow : List (List ℕ) → Type 0
+AsksShow words = words ≡ codes "show" ∷ []
 
 -- the text, or the text and a line feed
 abbrev pub IsLine : List ℕ → List ℕ → Type 0
@@ -33,3 +40,9 @@ pub record SpellsMonthly (text : List ℕ) (day : ℕ) : Type 0 where
 -- the midnight of that day of a month
 abbrev pub is_monthly : ℕ → ℤ → Bool
 is_monthly day t = (second_of_day t == 0) && (day_of_month (day_of t) == day)
+
+-- the text of the language is accepted as these trees
+pub record IsReadAs (text : List ℕ) (trees : Trees) : Type 0 where
+  pub tokens : List Token
+  pub found : HasTokens text tokens
+  pub accepted : AreAccepted tokens trees

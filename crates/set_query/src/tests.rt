@@ -1,4 +1,4 @@
-ghost use Rattle.std.specs.Prelude.{◌≡◌, ◌<◌, Some, map};
+ghost use Rattle.std.specs.Prelude.{◌≡◌, ◌⊎◌, ◌<◌, Some, map};
 ghost use Rattle.std.specs.String.{string_bytes};
 ghost use Rattle.outside_core.specs.Memory.{told};
 ghost use Rattle.set_query.specs.Effects.{Answers};
@@ -19,7 +19,7 @@ fn words_of(alloc: Global, line: &str) -> Result<Vec<String>, AllocError> {
     Ok(words)
 }
 
-// Without faults the status and the line are always those of the words and the text.
+// Without faults the status and the line are those of the words and the text, unless memory runs out.
 fn run_sure<L: Ledger>(
     alloc: Global,
     words: &[String],
@@ -30,7 +30,7 @@ fn run_sure<L: Ledger>(
     requires name { blank.name ≡ L.name }
     requires parts { blank.parts ≡ L.parts }
     requires some { 0 < blank.parts }
-    ensures { Answers (map string_bytes words.now) (Some source.old) (told sink.old) (told sink.new) result }
+    ensures { Answers (map string_bytes words.now) (Some source.old) (told sink.old) (told sink.new) result ⊎ (result ≡ 6) }
 {
     let book = Book::empty(alloc);
     let mut steps = Steps::<L>::new(blank);
@@ -234,15 +234,80 @@ fn the_next_day_of_a_month_is_written_or_edge_or_a_refusal(rt: HostRuntime) {
 #[test]
 fn a_failed_read_is_status_4_and_a_failed_write_status_5(rt: HostRuntime) {
     let alloc = rt.alloc();
-    let words = words_of(alloc, "next at=2024-02-10T00:00:00").expect(&rt, "");
-    for (failed_reads, failed_writes, status) in [(1usize, 0usize, 4u8), (0, 1, 5)] {
-        let text = Vec::from_slice(alloc, b"monthly(days=29)").expect(&rt, "");
+    let next = "next at=2024-02-10T00:00:00";
+    for (line, text, failed_reads, failed_writes, status) in [
+        (next, "monthly(days=29)", 1usize, 0usize, 4u8),
+        (next, "monthly(days=29)", 0, 1, 5),
+        ("show", "empty()", 1, 0, 4),
+        ("show", "empty()", 0, 1, 5),
+        ("show", "(", 0, 1, 5),
+    ] {
+        let words = words_of(alloc, line).expect(&rt, "");
+        let text = Vec::from_slice(alloc, text.as_bytes()).expect(&rt, "");
         let reads = Vec::from_slice(alloc, &[0u64][..failed_reads]).expect(&rt, "");
         let writes = Vec::from_slice(alloc, &[0u64][..failed_writes]).expect(&rt, "");
         let mut source = MemSource::new(text, reads);
         let mut sink = MemSink::new(alloc, 64, writes).expect(&rt, "");
         let answered = answer_with_faults(alloc, &words, &mut source, &mut sink);
-        assert_eq!(rt; answered, status);
-        assert!(rt; sink.taken() == b"".as_slice());
+        assert_eq!(rt; answered, status, "at {line}");
+        assert!(rt; sink.taken() == b"".as_slice(), "at {line}");
+    }
+}
+
+/// The text that has the front so many times before the rest.
+fn repeated(alloc: Global, front: &[u8], times: usize, rest: &[u8]) -> Result<Vec<u8>, AllocError> {
+    let mut text = Vec::new(alloc);
+    for _ in 0..times {
+        text.extend_from_slice(front)?;
+    }
+    text.extend_from_slice(rest)?;
+    Ok(text)
+}
+
+#[test]
+fn texts_are_shown_or_refused(rt: HostRuntime) {
+    let alloc = rt.alloc();
+    let words = words_of(alloc, "show").expect(&rt, "");
+    for (front, times, rest, status, written) in [
+        (
+            "",
+            0usize,
+            "!(empty( )|{2024-01-01T00:00:00})",
+            0u8,
+            "!(empty() | {2024-01-01T00:00:00})\n",
+        ),
+        ("", 0, "empty();\nspan()\n", 0, "empty() ; span()\n"),
+        (
+            "",
+            0,
+            "{2024-01-01T00:00:00} | {2024-01-01T00:00:00Z}",
+            2,
+            "refused sort clock\n",
+        ),
+        ("", 0, "empty() @", 2, "refused token 8\n"),
+        ("", 0, "", 2, "refused syntax\n"),
+        ("", 0, "daily( )", 2, "refused unbuilt\n"),
+        ("", 0, "{2023-02-29T00:00:00}", 2, "refused moment 1\n"),
+        // a text that is too long is read no further
+        (" ", 65_529, "empty()", 0, "empty()\n"),
+        (" ", 65_537, "", 2, "refused long\n"),
+        (" ", 65_540, "", 2, "refused long\n"),
+        // deep texts
+        ("(", 129, "", 2, "refused syntax\n"),
+        ("!", 128, "empty()", 2, "refused sort depth\n"),
+        (
+            "!",
+            127,
+            "empty()",
+            0,
+            "!!!!!!!!!!!!!!!!!!!!!!!!!!!!!!!!!!!!!!!!!!!!!!!!!!!!!!!!!!!!!!!!!!!!!!!!!!!!!!!!!!!!!!!!!!!!!!!!!!!!!!!!!!!!!!!!!!!!!!!!!!!!!!!empty()\n",
+        ),
+    ] {
+        let text = repeated(alloc, front.as_bytes(), times, rest.as_bytes()).expect(&rt, "");
+        let mut source = SureSource::new(text);
+        let mut sink = SureSink::new(alloc, 256).expect(&rt, "");
+        let answered = answer(alloc, &words, &mut source, &mut sink);
+        assert_eq!(rt; answered, status, "at {rest}");
+        assert!(rt; sink.taken() == written.as_bytes(), "at {rest}");
     }
 }

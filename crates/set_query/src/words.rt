@@ -1,10 +1,10 @@
 //! The words of a query.
 
-ghost use Rattle.std.specs.Prelude.{◌≡◌, ◌++◌, ℤ, map, false, codes, IfSome, IfNone};
+ghost use Rattle.std.specs.Prelude.{◌≡◌, ◌++◌, ℤ, map, true, false, codes, IfSome, IfNone};
 ghost use Rattle.std.specs.String.{string_bytes};
 ghost use Rattle.moment_core.specs.Line.{IsCalendarMoment};
 ghost use Rattle.moment_text.specs.Literal.{literal_of};
-ghost use Rattle.set_query.specs.Texts.{AsksNext, IsAt};
+ghost use Rattle.set_query.specs.Texts.{AsksNext, AsksShow, IsAt};
 
 use moment_core::Moment;
 use moment_text::read_moment;
@@ -30,5 +30,16 @@ pub(crate) fn asked_next(words: &[String]) -> Option<Moment>
     match words {
         [command, at] if command.as_str() == "next" => floating_at(at.as_bytes()),
         _ => None,
+    }
+}
+
+/// Whether the words are `show` alone.
+pub(crate) fn asks_show(words: &[String]) -> bool
+    ensures yes { result ≡ true → AsksShow (map string_bytes words.now) }
+    ensures no { result ≡ false → AsksShow (map string_bytes words.now) → ⊥ }
+{
+    match words {
+        [command] => command.as_str() == "show",
+        _ => false,
     }
 }

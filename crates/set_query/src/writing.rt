@@ -13,7 +13,7 @@ use moment_text::write_literal;
 use outside_core::{Put, Sink};
 
 /// Writes the line by one call, and answers the status, or 5 where the write failed.
-fn put<K: Sink>(sink: &mut K, line: &[u8], status: u8) -> u8
+pub(crate) fn put<K: Sink>(sink: &mut K, line: &[u8], status: u8) -> u8
     requires { status < 5 }
     ensures { IsWritten (K.taken sink.old) (K.taken sink.new) (K.faults sink.old) (K.faults sink.new) (record { status = status; bytes = line.now }) result }
 {
@@ -23,7 +23,7 @@ fn put<K: Sink>(sink: &mut K, line: &[u8], status: u8) -> u8
     }
 }
 
-/// Refuses the words or the text.
+/// Refuses the words, or a text that `next` isn't answered over.
 pub(crate) fn refuse<K: Sink>(sink: &mut K) -> u8
     ensures { IsWritten (K.taken sink.old) (K.taken sink.new) (K.faults sink.old) (K.faults sink.new) refused result }
 {
