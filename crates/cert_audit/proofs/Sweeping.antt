@@ -15,10 +15,10 @@ use Rattle.span_core.specs.Answers.{IsAnswer, IsFound, IsUpTo, StopsAt, counted_
 use Rattle.span_core.specs.declared.answers.Answer.{Answer}
 use Rattle.span_core.specs.declared.answers.Answer.TheVariants.{At, None as Never, Edge, Budget}
 use Rattle.span_core.proofs.Runs.{halves}
-use Rattle.span_core.proofs.Searches.{ahead-zero, seen-zero}
+use Rattle.span_core.proofs.Searches.{ahead-ahead, ahead-zero, seen-zero}
 use Rattle.frame_core.specs.Frames.{IsPeriod, RepeatsIfFramed, in_calendar, repeats_by, repeats_from, window_after, window_if_framed}
 use Rattle.frame_core.specs.declared.frames.Frame.{Frame}
-use Rattle.frame_core.proofs.Repeating.{ahead-ahead, in_calendar-is, keeps}
+use Rattle.frame_core.proofs.Repeating.{in_calendar-is, keeps}
 use Rattle.expr_tree.specs.Members.{is_member}
 use Rattle.expr_tree.specs.Tree.{Tree}
 use Rattle.cert_audit.specs.Candidates.{candidates, is_candidate}

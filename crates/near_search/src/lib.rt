@@ -3,6 +3,8 @@
 
 mod laws;
 mod neighbours;
+#[cfg(test)]
+mod tests;
 
 pub use laws::next_laws;
 pub use neighbours::next;

@@ -64,7 +64,7 @@ fn after_member<L: Ledger>(r: &Ready, p: Pos, budget: u64, steps: &mut Steps<L>)
 {
     match sweep(r, p, Dir::Fore, budget, steps) {
         Answer::At(gap) => after_gap(r, gap, budget, steps),
-        Answer::None(window) => Near::None(window),
+        Answer::None(full) => Near::None(full),
         Answer::Edge => Near::Edge,
         Answer::Budget(stop) => Near::Budget(stop),
     }
@@ -80,7 +80,7 @@ fn after_gap<L: Ledger>(r: &Ready, p: Pos, budget: u64, steps: &mut Steps<L>) ->
 {
     match sweep(r, p, Dir::Fore, budget, steps) {
         Answer::At(first) => run_from(r, first, budget, steps),
-        Answer::None(window) => Near::None(window),
+        Answer::None(empty) => Near::None(empty),
         Answer::Edge => Near::Edge,
         Answer::Budget(stop) => Near::Budget(stop),
     }

@@ -12,7 +12,7 @@ returns-in-At-clause-answer g c =
 
 pub returns-in-None-clause-answer : goal.returns-in-None-clause-answer
 returns-in-None-clause-answer g c =
-    never_past (members_of c.args.r.now) (window_if_framed (frame_of_ready c.args.r.now) Fore) c.args.p.0 c.in-None.window
+    never_past (members_of c.args.r.now) (window_if_framed (frame_of_ready c.args.r.now) Fore) c.args.p.0 c.in-None.empty
     c.requires.range c.in-None.ensures.answer
 
 pub returns-in-Edge-clause-answer : goal.returns-in-Edge-clause-answer
