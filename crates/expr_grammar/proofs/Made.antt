@@ -1,5 +1,5 @@
 -- Spelled expressions are made of the moments of their tokens.
-use Rattle.std.proofs.Common.{◌≡◌, ℕ, zero, suc, List, [], ◌∷◌, ◌++◌, Option, Some, None, subst}
+use Rattle.std.proofs.Common.{ℕ, zero, suc, List, [], ◌∷◌, ◌++◌, Option, subst}
 use Rattle.std.specs.List.{AllByRecursion}
 use Rattle.moment_core.specs.declared.line.Stamp.{Stamp}
 use Rattle.expr_tokens.specs.declared.token.Operator.{Operator}

@@ -1,5 +1,5 @@
 -- Expressions by the moments that they are made of.
-use Rattle.std.specs.Prelude.{List, [], ◌∷◌, Option, Some, None}
+use Rattle.std.specs.Prelude.{[], ◌∷◌, Option, Some, None}
 use Rattle.std.specs.List.{AllByRecursion}
 use Rattle.moment_core.specs.declared.line.Stamp.{Stamp}
 use Rattle.expr_tokens.specs.Plain.{Token}

@@ -1,5 +1,5 @@
 -- No two answers of one text differ.
-use Rattle.std.proofs.Common.{◌≡◌, ℕ, ◌+◌, ◌≤◌, ◌<◌, Bool, true, false, ◌||◌, cond, List, [], ◌∷◌, ◌++◌, length, Option, Some, None, Result, Ok, Err, refl, sym, ap, subst, ◌∙◌, arith}
+use Rattle.std.proofs.Common.{◌≡◌, ℕ, ◌+◌, ◌<◌, Bool, true, false, cond, List, [], ◌∷◌, length, Option, Some, None, Result, Ok, Err, refl, sym, ap, subst, ◌∙◌, arith}
 use Rattle.std.specs.List.{AllByRecursion, AllZip, list_any}
 use Rattle.span_core.specs.declared.bounds.Bound.{Bound}
 use Rattle.expr_tokens.specs.declared.token.Token.{Token as Placed}
@@ -9,7 +9,6 @@ use Rattle.expr_tokens.specs.Plain.{Token, plain, plains}
 use Rattle.expr_tokens.specs.Plain as tokens
 use Rattle.expr_tokens.specs.Reading.{AreFound, IsFound, LeavesAt, alone, reading_of, tokens_of}
 use Rattle.expr_grammar.specs.Form.{Forms}
-use Rattle.expr_grammar.specs.Grammar.{Spells}
 use Rattle.expr_grammar.specs.Syntax.{span_places}
 use Rattle.expr_grammar.proofs.Completeness.{Spells-unique}
 use Rattle.expr_tree.specs.Tree.{Trees, trees_of}

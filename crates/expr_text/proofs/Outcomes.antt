@@ -1,5 +1,5 @@
 -- The clauses of the reader, from what its phases answer.
-use Rattle.std.proofs.Common.{◌≡◌, ◌≤◌, ℕ, List, length, None, Result, Ok, Err, sym, subst, ◌∙◌, ap}
+use Rattle.std.proofs.Common.{◌≡◌, ◌≤◌, ℕ, List, length, None, Result, Ok, Err, sym, subst}
 use Rattle.std.specs.Prelude.{IfOk}
 use Rattle.std.specs.List.{AllByRecursion}
 use Rattle.expr_tokens.specs.declared.token.Token.{Token as Placed}
@@ -13,7 +13,6 @@ use Rattle.expr_text.specs.declared.fault.TextFault.TheVariants as faults
 use Rattle.expr_text.specs.Accepted.{AreAccepted, AreWellFormed, HasMoments, HasTokens, IsAnswer, LONGEST}
 use Rattle.expr_text.specs.Faults.{sort_fault}
 use Rattle.expr_text.specs.Phases.{GivesProgram, IsInRange, IsOutcome}
-use Rattle.expr_text.specs.Trees.{trees_from}
 use Rattle.expr_text.proofs.Moments.{accepted_well_formed}
 
 -- the last phase, behind those of the moments
