@@ -17,7 +17,7 @@ use Rattle.moment_text.specs.Literal.{literal_of}
 use Rattle.set_query.specs.Laws.{OutcomesAreUnique, OutcomesExist}
 use Rattle.expr_text.specs.Printing.{print_program}
 use Rattle.set_query.specs.Report.{Outcome, IsOutcome, IsNextLine, answered, refused, refused_by, found, edge, other_words, other_text, next, shown, faulty}
-use Rattle.set_query.specs.Texts.{AsksNext, AsksShow, IsLine, SpellsMonthly, is_monthly, monthly_text}
+use Rattle.set_query.specs.Texts.{AsksNext, IsLine, SpellsMonthly, is_monthly, monthly_text}
 use Rattle.set_query.proofs.OutcomeLemmas.{asks_one}
 use Rattle.set_query.proofs.ReadingLaws.{one_program, no_fault, one_fault_line}
 use Rattle.set_query.proofs.TextLemmas.{one_digits}

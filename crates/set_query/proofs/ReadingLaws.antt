@@ -1,5 +1,5 @@
 -- A text of the language is read as one program, or has one fault.
-use Rattle.std.proofs.Common.{◌≡◌, ◌≤◌, ◌<◌, ◌+◌, ◌-◌, ◌⊎◌, inl, inr, ℕ, Bool, true, false, List, [], ◌∷◌, length, Option, Some, None, Result, Ok, Err, if◌then◌else◌, refl, sym, subst, ◌∙◌, ap, arith}
+use Rattle.std.proofs.Common.{◌≡◌, ◌<◌, ◌-◌, ℕ, Bool, true, false, List, [], ◌∷◌, length, Option, Some, None, Result, Ok, Err, if◌then◌else◌, refl, sym, subst, ◌∙◌, ap, arith}
 use Rattle.std.proofs.lemmas.Bool.{true≢false}
 use Rattle.std.specs.List.{AllByRecursion, AllZip, list_any}
 use Rattle.expr_tokens.specs.declared.token.Token.{Token as Placed}
@@ -7,20 +7,19 @@ use Rattle.expr_tokens.specs.declared.token.Token.TheVariants as placed
 use Rattle.expr_tokens.specs.declared.token.Word.TheVariants as words
 use Rattle.expr_tokens.specs.Plain.{Token, plain, plains}
 use Rattle.expr_tokens.specs.Plain as tokens
-use Rattle.expr_tokens.specs.Reading.{AreFound, Found, IsFound, alone, reading_of, tokens_of}
+use Rattle.expr_tokens.specs.Reading.{AreFound, IsFound, alone, reading_of, tokens_of}
 use Rattle.expr_grammar.specs.Form.{Forms}
 use Rattle.expr_grammar.specs.Syntax.{span_places}
 use Rattle.expr_grammar.proofs.Completeness.{Spells-unique}
 use Rattle.expr_tree.specs.Tree.{Trees}
 use Rattle.expr_tree.specs.declared.sorting.SortFault.{SortFault}
 use Rattle.span_core.specs.declared.bounds.Bound.{Bound}
-use Rattle.expr_text.specs.Accepted.{AreAccepted, HasForms, HasMoments, HasTokens, HaveMomentFault, HaveSortFault, IsAnswer, IsTokenFault, LONGEST, SpellNothing}
+use Rattle.expr_text.specs.Accepted.{AreAccepted, HasForms, HasMoments, HasTokens, HaveSortFault, IsAnswer, IsTokenFault, LONGEST, SpellNothing}
 use Rattle.expr_text.specs.Calls.{calls_unbuilt}
 use Rattle.expr_text.specs.Faults.{FirstVacant, HasPosition, IsMomentFault, IsVacant, all_spans_of, first_nameless, here, is_nameless, later, nameless, sort_fault, vacant}
 use Rattle.expr_text.specs.Trees.{trees_from}
 use Rattle.expr_text.specs.declared.fault.TextFault.{TextFault}
 use Rattle.expr_text.specs.declared.fault.TextFault.TheVariants as faults
-use Rattle.expr_text.proofs.Moments.{none_nameless}
 use Rattle.set_query.specs.Refusals.{fault_line}
 use Rattle.set_query.specs.Texts.{IsReadAs}
 

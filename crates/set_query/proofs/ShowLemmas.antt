@@ -1,5 +1,5 @@
 -- The clauses of a query for `show`, from what was written over the bytes that were read.
-use Rattle.std.proofs.Common.{◌≡◌, ◌⊎◌, inl, inr, [], ℕ, List, Option, Some, IfSome, arith, ◌∙◌, sym}
+use Rattle.std.proofs.Common.{◌≡◌, ◌⊎◌, inl, inr, [], ℕ, List, Option, Some, IfSome, arith}
 use Rattle.outside_core.specs.Outside.{Rose}
 use Rattle.set_query.specs.Effects.{IsDone, IsReported, IsOutcomeOf, Answers, BreaksOff, ReadsFront}
 use Rattle.set_query.specs.Texts.{AsksShow}

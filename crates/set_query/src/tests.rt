@@ -288,7 +288,7 @@ fn texts_are_shown_or_refused(rt: HostRuntime) {
         ("", 0, "", 2, "refused syntax\n"),
         ("", 0, "daily( )", 2, "refused unbuilt\n"),
         ("", 0, "{2023-02-29T00:00:00}", 2, "refused moment 1\n"),
-        // a text that is too long is read no further
+        // the longest text, one that is too long, and one of which not all is read
         (" ", 65_529, "empty()", 0, "empty()\n"),
         (" ", 65_537, "", 2, "refused long\n"),
         (" ", 65_540, "", 2, "refused long\n"),
