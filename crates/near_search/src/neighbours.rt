@@ -11,10 +11,11 @@ use moment_core::{Dir, Moment, Pos, Steps, of};
 use span_core::{Answer, Bound, Near, Run, Test, run_of};
 use std::sync::ledger::Ledger;
 
-/// The first run that begins after the moment, by searches forwards of at most three places, each with the budget.
+/// The first run that begins after the moment, by searches of the set forwards, each with the budget.
 ///
-/// `None` and `Edge` come where no run begins after the moment in the calendar range: for ever, or as far as is known. `Budget`
-/// comes only where a search from the moment, from the end of its run or from the beginning of the next one stops.
+/// Where none begins up to the end of the calendar range, `None` gives the window after which the set repeats, in which nothing
+/// differs, and `Edge` says nothing of what lies past the range. `Budget` comes only where one of the searches stops: from the
+/// moment, from the end of its run, or from the beginning of the next one.
 pub fn next<L: Ledger>(r: &Ready, at: Moment, budget: u64, steps: &mut Steps<L>) -> Near
     requires range { IsCalendarMoment at.0 }
     requires budget { 1 ≤ budget }
