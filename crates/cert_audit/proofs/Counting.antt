@@ -7,15 +7,15 @@ use Rattle.expr_tree.specs.Members.{is_listed}
 use Rattle.expr_tree.specs.Tree.{Tree, Empty, Listed, Spanned, Union, Meet, Minus, Not}
 use Rattle.cert_audit.specs.Candidates.{bounds_at, candidates, count_between, count_from, is_candidate}
 
-count_from-zero : (test : ℤ → Bool) (p : ℤ) → count_from test p 0 ≡ 0
+pub count_from-zero : (test : ℤ → Bool) (p : ℤ) → count_from test p 0 ≡ 0
 unfolding count_from
 count_from-zero test p = refl
 
-count_from-suc : (test : ℤ → Bool) (p : ℤ) (n : ℕ) → count_from test p (suc n) ≡ cond (test p) 1 0 + count_from test (p +ℤ pos 1) n
+pub count_from-suc : (test : ℤ → Bool) (p : ℤ) (n : ℕ) → count_from test p (suc n) ≡ cond (test p) 1 0 + count_from test (p +ℤ pos 1) n
 unfolding count_from
 count_from-suc test p n = refl
 
-count_from-append : (test : ℤ → Bool) (p : ℤ) (m n : ℕ) → count_from test p (m + n) ≡ count_from test p m + count_from test (p +ℤ pos m) n
+pub count_from-append : (test : ℤ → Bool) (p : ℤ) (m n : ℕ) → count_from test p (m + n) ≡ count_from test p m + count_from test (p +ℤ pos m) n
 count_from-append test p zero n =
     let none : count_from test p 0 ≡ 0 = count_from-zero test p in
     let whole : count_from test p (0 + n) ≡ count_from test p n = ap (count_from test p) (omega arith) in
@@ -36,7 +36,7 @@ int_gap-steps (pos a) (negsuc b) n e = omega (arith, ints)
 int_gap-steps (negsuc a) (pos b) n e = omega (arith, ints)
 int_gap-steps (negsuc a) (negsuc b) n e = omega (arith, ints)
 
-count_between-is : (test : ℤ → Bool) (a b : ℤ) (n : ℕ) → b +ℤ pos 1 ≡ a +ℤ pos n → count_between test a b ≡ count_from test a n
+pub count_between-is : (test : ℤ → Bool) (a b : ℤ) (n : ℕ) → b +ℤ pos 1 ≡ a +ℤ pos n → count_between test a b ≡ count_from test a n
 unfolding count_between
 count_between-is test a b n e = ap (count_from test a) (int_gap-steps a (b +ℤ pos 1) n e)
 

@@ -1,2 +1,5 @@
+pub mod Ampleness
+pub mod Busiest
+pub mod Days
 pub mod Nearing
 pub mod Ranging

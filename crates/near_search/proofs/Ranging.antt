@@ -72,11 +72,11 @@ end_in_range set window q answers.Edge last here f e =
     subst P (sym e) tt
 end_in_range set window q (answers.Budget s) last here f e = absurd f
 
-abbrev window_at : ℤ → ℤ → Window
+abbrev pub window_at : ℤ → ℤ → Window
 window_at a b = record { lo = record { 0 = a }; hi = record { 0 = b } }
 
 -- a window that is there goes from a to b
-in_calendar-window : (a b : ℤ) (w : Window) → in_calendar a b ≡ Some w → w ≡ window_at a b
+pub in_calendar-window : (a b : ℤ) (w : Window) → in_calendar a b ≡ Some w → w ≡ window_at a b
 in_calendar-window a b w = elim (int_le (position_of LOW) a && int_le b (position_of HIGH)) as (λ t. (if t then Some (window_at a b) else None) ≡ Some w → w ≡ window_at a b) [
   | true ↦ λ e. cc
   | false ↦ λ e. absurd cc
@@ -121,7 +121,7 @@ right_before set Back p x place here c near e =
     let later : 0 < n = c.2.later in
     (omega (arith, ints), omega (arith, ints))
 
-place_in_range : (set : ℤ → Bool) (dir : Dir) (n : ℕ) (p place : ℤ) → IsCalendarPosition p → IsPlaceWithin set dir n p place → IsCalendarPosition place
+pub place_in_range : (set : ℤ → Bool) (dir : Dir) (n : ℕ) (p place : ℤ) → IsCalendarPosition p → IsPlaceWithin set dir n p place → IsCalendarPosition place
 place_in_range set dir zero p place here h =
     let P : ℤ → Type 0 = λ z. IsCalendarPosition z in
     subst P (sym h) here

@@ -1,1 +1,2 @@
+pub mod Ample
 pub mod Neighbours

@@ -1,4 +1,4 @@
--- Candidates of a stretch, day by day and leaf by leaf.
+-- The candidates of a stretch, day by day and leaf by leaf.
 use Rattle.std.proofs.Common.{◌≡◌, ◌⊎◌, refl, ap, ◌∙◌, sym, inl, inr, arith, ℕ, zero, suc, ◌+◌, ◌*◌, ◌<◌, ◌≤◌, ℤ, pos, negsuc, ◌+ℤ◌, ◌-ℤ◌, ◌≤ℤ◌, unsigned_abs, Bool, mul_assoc, suc-mul, add-mul, mul_comm}
 use Rattle.std.proofs.lemmas.Int.{ints}
 use Rattle.std.specs.Int.{int_gap}
@@ -8,7 +8,7 @@ use Rattle.expr_tree.specs.Members.{is_listed}
 use Rattle.expr_tree.specs.Tree.{Tree, Empty, Listed, Spanned, Union, Meet, Minus, Not}
 use Rattle.cert_audit.specs.Candidates.{bounds_at, candidates, count_between, count_from}
 use Rattle.cert_audit.proofs.Counting.{count_between-is, count_from-append, count_from-zero}
-use Rattle.budget_laws.specs.Ample.{IsAmple, IsBusiest, IsLeafOf, IsMost, IsWorkingPosition, candidates_on, copies_of, days_of_working_range, first_of_day}
+use Rattle.near_search.specs.Ample.{IsAmple, IsBusiest, IsLeafOf, IsMost, IsWorkingPosition, candidates_on, copies_of, days_of_working_range, first_of_day}
 
 -- two stretches, one after the other, and none
 count_between-split : (test : ℤ → Bool) (a m b : ℤ) → a ≤ℤ (m +ℤ pos 1) → m ≤ℤ b → count_between test a b ≡ count_between test a m + count_between test (m +ℤ pos 1) b
@@ -104,6 +104,10 @@ by_days t m h (suc n) day =
     ap (λ p. candidates t p last) place ∙ sym (ap (candidates t next) end) in
     let more = suc-mul n m in
     omega arith
+
+pub whole_days : HIGH +ℤ REACH +ℤ pos 1 ≡ LOW -ℤ REACH +ℤ pos (86_400 * days_of_working_range)
+unfolding days_of_working_range
+whole_days = omega (arith, ints)
 
 -- the working range begins with a day, and ends with one
 unfoldable first_working_day : ℤ

@@ -9,7 +9,7 @@ use Rattle.cert_audit.specs.Candidates.{candidates}
 abbrev pub IsWorkingPosition : ℤ → Type 0
 IsWorkingPosition p = (position_of (LOW -ℤ REACH) ≤ℤ p) × (p ≤ℤ position_of (HIGH +ℤ REACH))
 
--- how often the candidates of one leaf may be counted: once for each leaf
+-- how often the most of one leaf is counted: once for each leaf
 abbrev pub copies_of : Tree → ℕ
 copies_of Empty = 1
 copies_of (Listed stamps) = 1
