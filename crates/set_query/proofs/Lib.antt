@@ -1,9 +1,7 @@
 pub mod FrontLemmas
 pub mod NextLemmas
+pub mod NextOverLemmas
 pub mod OutcomeLaws
 pub mod OutcomeLemmas
-pub mod ReadingLaws
 pub mod SearchLemmas
-pub mod ShowLemmas
 pub mod TextLemmas
-pub mod WordLemmas

@@ -1,25 +1,39 @@
 -- Words and a text have one outcome.
-use Rattle.std.proofs.Common.{◌≡◌, ◌<◌, ◌≤◌, ◌+◌, ◌-◌, ◌++◌, ◌∷◌, [], ℕ, zero, suc, ℤ, pos, ◌+ℤ◌, ◌-ℤ◌, Bool, true, false, not, ◌&&◌, ◌||◌, ◌⊎◌, inl, inr, List, codes, decimal, sym, ◌∙◌, ap, subst, refl, arith, unsigned_abs}
+use Rattle.std.proofs.Common.{◌≡◌, ◌≢◌, ◌<◌, ◌≤◌, ◌+◌, ◌-◌, ◌++◌, ◌∷◌, [], ℕ, zero, suc, ℤ, pos, ◌+ℤ◌, ◌-ℤ◌, Bool, true, false, not, ◌&&◌, ◌||◌, ◌⊎◌, inl, inr, List, codes, decimal, sym, ◌∙◌, ap, subst, refl, arith, unsigned_abs, Option, Some, None, Result, Ok, Err, is_none}
 use Rattle.std.proofs.lemmas.Bool.{cases_lt, true≢false, and_parts, and_from, not-true, or_cases, or_left, or_right}
 use Rattle.std.proofs.lemmas.Fmt.{decimal_injective}
-use Rattle.std.proofs.lemmas.List.{append_cancel_left}
-use Rattle.std.proofs.lemmas.Slice.Eq.{bytes_eq-Decides, slice_eq-Decides}
-use Rattle.std.specs.Bool.{Decides}
-use Rattle.std.specs.Cmp.Lexicographic.{pointwise}
+use Rattle.std.proofs.lemmas.Slice.Eq.{bytes_eq-Decides}
 use Rattle.std.specs.Str.{bytes_eq}
+use Rattle.expr_text.specs.Accepted.{IsAnswer, IsTold}
+use Rattle.expr_text.specs.Printing.{print_program}
+use Rattle.expr_text.specs.declared.fault.TextFault.{TextFault}
+use Rattle.expr_text.specs.declared.fault.TextFault.TheVariants as faults
+use Rattle.expr_text.proofs.OneAnswer.{one_answer}
+use Rattle.expr_text.specs.Faults.{sort_fault}
+use Rattle.expr_tree.specs.Members.{is_member}
+use Rattle.expr_tree.specs.Tree.{Tree, Trees, trees_of}
+use Rattle.expr_tree.specs.declared.sorting.Sort.{Sort}
+use Rattle.expr_tree.specs.declared.sorting.SortFault.{SortFault}
+use Rattle.expr_tree.specs.declared.tree.Program.{Program}
 use Rattle.moment_core.specs.declared.line.Dir.TheVariants.{Fore}
-use Rattle.moment_core.specs.declared.line.TheConstants.{LOW, HIGH, WIDTH}
-use Rattle.moment_core.specs.Line.{IsCalendarMoment, IsCalendarPosition, IsWorkingMoment, moment_of, position_of}
+use Rattle.moment_core.specs.declared.line.Stamp.{Stamp}
+use Rattle.moment_core.specs.declared.line.TheConstants.{HIGH}
+use Rattle.moment_core.specs.Line.{IsCalendarMoment, IsCalendarPosition, moment_of, position_of}
 use Rattle.moment_core.specs.Sets.{BeginsFirst, IsNextBeginning, NoneBegins, moments_in, seen}
 use Rattle.moment_core.proofs.FloorLemmas.{floor_arith}
-use Rattle.moment_text.specs.Laws.{LiteralsTellMomentsApart}
 use Rattle.moment_text.specs.Literal.{literal_of}
+use Rattle.near_search.proofs.Nearing.{one_next, some_next}
+use Rattle.query_words.specs.Laws.{AnswersAreUnique, AnswersExist}
+use Rattle.query_words.specs.Words.{Asks, IsAnswer as IsAnswerOf}
+use Rattle.query_words.specs.declared.queries.Query.{Query}
+use Rattle.query_words.specs.declared.queries.Query.TheVariants.{Next, Show}
+use Rattle.query_words.specs.declared.queries.WordsFault.{WordsFault}
+use Rattle.span_core.specs.declared.answers.Near.{Near}
 use Rattle.set_query.specs.Laws.{OutcomesAreUnique, OutcomesExist}
-use Rattle.expr_text.specs.Printing.{print_program}
-use Rattle.set_query.specs.Report.{Outcome, IsOutcome, IsNextLine, answered, refused, refused_by, found, edge, other_words, other_text, next, shown, faulty}
-use Rattle.set_query.specs.Texts.{AsksNext, IsLine, SpellsMonthly, is_monthly, monthly_text}
-use Rattle.set_query.proofs.OutcomeLemmas.{asks_one}
-use Rattle.set_query.proofs.ReadingLaws.{one_program, no_fault, one_fault_line}
+use Rattle.set_query.specs.Refusals.{fault_line, sort_line, words_line}
+use Rattle.set_query.specs.Report.{Outcome, IsAlone, IsInRange, IsNextLine, IsNextOver, IsOfLanguage, IsOutcome, IsReply, IsSearched, answered, bad_words, by_trees, clock, clocks_differ, edge, faulty, found, monthly, next, refused_by, replied, searched, shown, stopped, told, two, window_of}
+use Rattle.set_query.specs.Texts.{HasRule, IsLine, SpellsMonthly, is_monthly, monthly_text}
+use Rattle.set_query.proofs.NextOverLemmas.{asks_in_range, sort_of_first}
 use Rattle.set_query.proofs.TextLemmas.{one_digits}
 
 -- a run begins first at one place
@@ -51,58 +65,82 @@ one_line set at (found q b inside) (edge none) = absurd (found_and_edge set at q
 one_line set at (edge none) (found q b inside) = absurd (found_and_edge set at q b inside none)
 one_line set at (edge none) (edge also) = refl
 
-second : List (List ℕ) → List ℕ
-second [] = []
-second (x ∷ []) = []
-second (x ∷ y ∷ rest) = y
-
-second-is : (x y : List ℕ) (rest : List (List ℕ)) → second (x ∷ y ∷ rest) ≡ y
-unfolding second
-second-is x y rest = refl
-
-working : (t : ℤ) → IsCalendarMoment t → IsWorkingMoment t
-working t h = (omega (arith, floor_arith, h.0), omega (arith, floor_arith, h.1))
-
-one_moment : LiteralsTellMomentsApart → (words : List (List ℕ)) (a b : ℤ) → AsksNext words a → AsksNext words b → a ≡ b
-one_moment apart words a b h k =
-    let word : h.word ≡ k.word = sym (second-is (codes "next") h.word []) ∙ ap second (sym h.words_are ∙ k.words_are) ∙ second-is (codes "next") k.word [] in
-    let literal = append_cancel_left (codes "at=") (literal_of a false) (literal_of b false) (sym h.tells.word_is ∙ word ∙ k.tells.word_is) in
-    (apart a b false false (working a h.tells.in_range) (working b k.tells.in_range) literal).0
-
 one_day : (text : List ℕ) (a b : ℕ) → SpellsMonthly text a → SpellsMonthly text b → a ≡ b
 one_day text a b h k =
     decimal_injective a b (omega (arith, h.in_month.1)) (omega (arith, k.in_month.1)) (one_digits text (decimal a) (decimal b) h.text_is k.text_is)
 
-pub outcomes_are_unique : LiteralsTellMomentsApart → OutcomesAreUnique
-outcomes_are_unique apart words text a b (other_words none no_show) (other_words also no_show_b) = refl
-outcomes_are_unique apart words text a b (other_words none no_show) (other_text at asks other) = absurd (none at asks)
-outcomes_are_unique apart words text a b (other_words none no_show) (next at day line asks s is) = absurd (none at asks)
-outcomes_are_unique apart words text a b (other_words none no_show) (shown trees show is) = absurd (no_show show)
-outcomes_are_unique apart words text a b (other_words none no_show) (faulty fault line show is e) = absurd (no_show show)
-outcomes_are_unique apart words text a b (other_text at asks other) (other_words none no_show) = absurd (none at asks)
-outcomes_are_unique apart words text a b (other_text at asks other) (other_text at_b asks_b also) = refl
-outcomes_are_unique apart words text a b (other_text at asks other) (next at_b day line asks_b s is) = absurd (other day s)
-outcomes_are_unique apart words text a b (other_text at asks other) (shown trees show is) = absurd (asks_one words at asks show)
-outcomes_are_unique apart words text a b (other_text at asks other) (faulty fault line show is e) = absurd (asks_one words at asks show)
-outcomes_are_unique apart words text a b (next at day line asks s is) (other_words none no_show) = absurd (none at asks)
-outcomes_are_unique apart words text a b (next at day line asks s is) (other_text at_b asks_b other) = absurd (other day s)
-outcomes_are_unique apart words text a b (next at day line asks s is) (next at_b day_b line_b asks_b s_b is_b) =
-    let moment : at_b ≡ at = one_moment apart words at_b at asks_b asks in
-    let days : day_b ≡ day = one_day text day_b day s_b s in
-    let moved = subst (λ d. IsNextLine (moments_in (is_monthly d)) at line_b) days (subst (λ t. IsNextLine (moments_in (is_monthly day_b)) t line_b) moment is_b) in
-    ap answered (one_line (moments_in (is_monthly day)) at is moved)
-outcomes_are_unique apart words text a b (next at day line asks s is) (shown trees show read) = absurd (asks_one words at asks show)
-outcomes_are_unique apart words text a b (next at day line asks s is) (faulty fault line_b show read e) = absurd (asks_one words at asks show)
-outcomes_are_unique apart words text a b (shown trees show is) (other_words none no_show) = absurd (no_show show)
-outcomes_are_unique apart words text a b (shown trees show is) (other_text at asks other) = absurd (asks_one words at asks show)
-outcomes_are_unique apart words text a b (shown trees show is) (next at day line asks s is_b) = absurd (asks_one words at asks show)
-outcomes_are_unique apart words text a b (shown trees show is) (shown trees_b show_b is_b) = ap (λ t. answered (print_program t)) (one_program text trees trees_b is is_b)
-outcomes_are_unique apart words text a b (shown trees show is) (faulty fault line show_b is_b e) = absurd (no_fault text trees fault is is_b line e)
-outcomes_are_unique apart words text a b (faulty fault line show is e) (other_words none no_show) = absurd (no_show show)
-outcomes_are_unique apart words text a b (faulty fault line show is e) (other_text at asks other) = absurd (asks_one words at asks show)
-outcomes_are_unique apart words text a b (faulty fault line show is e) (next at day line_b asks s is_b) = absurd (asks_one words at asks show)
-outcomes_are_unique apart words text a b (faulty fault line show is e) (shown trees show_b is_b) = absurd (no_fault text trees fault is_b is line e)
-outcomes_are_unique apart words text a b (faulty fault line show is e) (faulty fault_b line_b show_b is_b e_b) = ap refused_by (one_fault_line text fault fault_b line line_b is is_b e e_b)
+-- a search has one outcome, stops aside
+one_searched : {at : Stamp} {budget : ℕ} {t : Tree} {sort : Sort} (a b : Outcome) → IsSearched at budget t sort a → IsSearched at budget t sort b → a.status ≢ 3 → b.status ≢ 3 → a ≡ b
+one_searched a b (stopped s is not) k d e = absurd (d refl)
+one_searched a b (next near is) (stopped s also not) d e = absurd (e refl)
+one_searched {at} {budget} {t} {sort} a b (next near is) (next other also) d e =
+    ap (told at sort) (one_next (is_member t) (window_of t) (position_of at.moment.0) near other is also)
+
+one_sort : (trees : Trees) (a b : Sort) → IsAlone trees a → IsAlone trees b → a ≡ b
+one_sort trees a b h k = let x = h.sorted in let y = k.sorted in cc
+
+not_alone : (trees : Trees) (sort : Sort) (second : Tree) → IsAlone trees sort → trees.second ≡ Some second → ⊥
+not_alone trees sort second h e = let x = h.alone in absurd cc
+
+not_both : (at : Stamp) (a b : Sort) → a ≡ b → clocks_differ at a ≡ true → clocks_differ at b ≡ false → ⊥
+not_both at a b same d e = true≢false (sym d ∙ ap (clocks_differ at) same ∙ e)
+
+one_over : (at : Stamp) (budget : ℕ) (trees : Trees) (a b : Outcome) → IsNextOver at budget trees a → IsNextOver at budget trees b → a.status ≢ 3 → b.status ≢ 3 → a ≡ b
+one_over at budget trees a b (two second is) (two other also) d e = refl
+one_over at budget trees a b (two second is) (clock sort alone k) d e = absurd (not_alone trees sort second alone is)
+one_over at budget trees a b (two second is) (searched sort o alone k over) d e = absurd (not_alone trees sort second alone is)
+one_over at budget trees a b (clock sort alone h) (two second is) d e = absurd (not_alone trees sort second alone is)
+one_over at budget trees a b (clock sort alone h) (clock sort_b alone_b k) d e = refl
+one_over at budget trees a b (clock sort alone h) (searched sort_b o alone_b k over) d e = absurd (not_both at sort sort_b (one_sort trees sort sort_b alone alone_b) h k)
+one_over at budget trees a b (searched sort o alone h over) (two second is) d e = absurd (not_alone trees sort second alone is)
+one_over at budget trees a b (searched sort o alone h over) (clock sort_b alone_b k) d e = absurd (not_both at sort_b sort (one_sort trees sort_b sort alone_b alone) k h)
+one_over at budget trees a b (searched sort o alone h over) (searched sort_b o_b alone_b k over_b) d e =
+    let same = one_sort trees sort_b sort alone_b alone in
+    one_searched a b over (subst (λ (s : Sort). IsSearched at budget trees.first s b) same over_b) d e
+
+-- a fault that has a line isn't want of memory
+told_fault : (fault : TextFault) (line : List ℕ) → fault_line fault ≡ Some line → IsTold (Err fault)
+told_fault fault line e same = let none : fault_line fault ≡ None = ap fault_line same in absurd cc
+
+one_line_of : (text : List ℕ) (f g : TextFault) (a b : List ℕ) → IsAnswer text (Err f) → IsAnswer text (Err g) → fault_line f ≡ Some a → fault_line g ≡ Some b → a ≡ b
+one_line_of text f g a b h k d e =
+    let same : f ≡ g = one_answer text (Err f) (Err g) h k (told_fault f a d) (told_fault g b e) in
+    let lines : Some a ≡ Some b = sym d ∙ ap fault_line same ∙ e in
+    cc
+
+no_fault : (text : List ℕ) (program : Program) (fault : TextFault) (line : List ℕ) → IsAnswer text (Ok program) → IsAnswer text (Err fault) → fault_line fault ≡ Some line → ⊥
+no_fault text program fault line h k e = one_answer text (Ok program) (Err fault) h k tt (told_fault fault line e)
+
+-- a text has one outcome for a query
+one_reply : (text : List ℕ) (query : Query) (a b : Outcome) → IsReply text query a → IsReply text query b → a.status ≢ 3 → b.status ≢ 3 → a ≡ b
+one_reply text query a b (shown program is) (shown other also) d e = ap (λ t. answered (print_program t)) (one_answer text (Ok program) (Ok other) is also tt tt)
+one_reply text query a b (shown program is) (faulty query_b fault line other also k) d e = absurd (no_fault text program fault line is also k)
+one_reply text query a b (monthly at budget day line r is) (monthly at_b budget_b day_b line_b r_b is_b) d e =
+    let days : day_b ≡ day = one_day text day_b day r_b.spelled r.spelled in
+    ap answered (one_line (moments_in (is_monthly day)) at.moment.0 is (subst (λ n. IsNextLine (moments_in (is_monthly n)) at.moment.0 line_b) days is_b))
+one_reply text query a b (monthly at budget day line r is) (by_trees at_b budget_b program o other also over) d e = absurd (other day r)
+one_reply text query a b (monthly at budget day line r is) (faulty query_b fault line_b other also k) d e = absurd (other day r)
+one_reply text query a b (by_trees at budget program o other is over) (monthly at_b budget_b day line r also) d e = absurd (other day r)
+one_reply text query a b (by_trees at budget program o other is over) (by_trees at_b budget_b program_b o_b other_b is_b over_b) d e =
+    let same : trees_of program_b ≡ trees_of program = one_answer text (Ok program_b) (Ok program) is_b is tt tt in
+    one_over at budget (trees_of program) a b over (subst (λ (t : Trees). IsNextOver at budget t b) same over_b) d e
+one_reply text query a b (by_trees at budget program o other is over) (faulty query_b fault line other_b also k) d e = absurd (no_fault text program fault line is also k)
+one_reply text query a b (faulty query_a fault line other is h) (shown program also) d e = absurd (no_fault text program fault line also is h)
+one_reply text query a b (faulty query_a fault line other is h) (monthly at budget day line_b r also) d e = absurd (other day r)
+one_reply text query a b (faulty query_a fault line other is h) (by_trees at budget program o other_b also over) d e = absurd (no_fault text program fault line also is h)
+one_reply text query a b (faulty query_a fault line other is h) (faulty query_b fault_b line_b other_b also k) d e = ap refused_by (one_line_of text fault fault_b line line_b is also h k)
+
+pub outcomes_are_unique : AnswersAreUnique → OutcomesAreUnique
+outcomes_are_unique unique words text a b (bad_words fault r) (bad_words other k) d e =
+    let both = unique words (Err fault) (Err other) r k in
+    let same : fault ≡ other = cc in
+    ap (λ (f : WordsFault). refused_by (words_line f)) same
+outcomes_are_unique unique words text a b (bad_words fault r) (replied query o asks k) d e = let both = unique words (Err fault) (Ok query) r asks in absurd cc
+outcomes_are_unique unique words text a b (replied query o asks r) (bad_words fault k) d e = let both = unique words (Ok query) (Err fault) asks k in absurd cc
+outcomes_are_unique unique words text a b (replied query o asks r) (replied other o_b asks_b k) d e =
+    let both = unique words (Ok other) (Ok query) asks_b asks in
+    let same : other ≡ query = cc in
+    one_reply text query a b r (subst (λ (q : Query). IsReply text q b) same k) d e
 
 -- the least of the numbers below n that pass, or that none does
 first_or_none : (p : ℕ → Bool) (n : ℕ) → ((k : ℕ) × (k < n) × (p k ≡ true) × ((j : ℕ) → j < k → p j ≡ false)) ⊎ ((k : ℕ) → k < n → p k ≡ false)
@@ -116,44 +154,6 @@ first_or_none p (suc n) =
     by_value : (b : Bool) → p n ≡ b → ((k : ℕ) → k < n → p k ≡ false) → ((k : ℕ) × (k < suc n) × (p k ≡ true) × ((j : ℕ) → j < k → p j ≡ false)) ⊎ ((k : ℕ) → k < suc n → p k ≡ false)
     by_value true e none = inl (n, omega arith, e, none)
     by_value false e none = inr (λ k less. elim (cases_lt k n) [ inl below ↦ none k below | inr up ↦ (let same : k ≡ n = omega arith in ap p same ∙ e) ])
-
--- the words that ask for a moment
-asking : ℤ → List (List ℕ)
-asking at = codes "next" ∷ (codes "at=" ++ literal_of at false) ∷ []
-
-asking-is : (at : ℤ) → asking at ≡ codes "next" ∷ (codes "at=" ++ literal_of at false) ∷ []
-unfolding asking
-asking-is at = refl
-
-same_words : (a b : List (List ℕ)) → Decides (pointwise bytes_eq a b) (a ≡ b)
-same_words a b = slice_eq-Decides bytes_eq-Decides a b (pointwise bytes_eq a b) refl
-
-asks_or_not : (words : List (List ℕ)) → ((at : ℤ) × AsksNext words at) ⊎ ((at : ℤ) → AsksNext words at → ⊥)
-asks_or_not words =
-    elim (first_or_none (λ k. pointwise bytes_eq words (asking (LOW +ℤ pos k))) WIDTH) [
-      | inl f ↦ (let at = LOW +ℤ pos f.0 in
-          let is : words ≡ asking at = (same_words words (asking at)).0 f.2 in
-          inl (
-            at,
-            record {
-              word = codes "at=" ++ literal_of at false;
-              words_are = is ∙ asking-is at;
-              tells = record { word_is = refl; in_range = (omega (arith, floor_arith), omega (arith, floor_arith, f.1)) };
-            },
-          ))
-      | inr none ↦ inr (λ at asks. not_asked none at asks)
-    ]
-  where
-    not_asked : ((k : ℕ) → k < WIDTH → pointwise bytes_eq words (asking (LOW +ℤ pos k)) ≡ false) → (at : ℤ) → AsksNext words at → ⊥
-    not_asked none at asks =
-        let k = unsigned_abs (at -ℤ LOW) in
-        let low = asks.tells.in_range.0 in
-        let high = asks.tells.in_range.1 in
-        let there : at ≡ LOW +ℤ pos k = omega (arith, floor_arith, low) in
-        let within : k < WIDTH = omega (arith, floor_arith, low, high) in
-        let is : words ≡ asking at = asks.words_are ∙ ap (λ w. codes "next" ∷ w ∷ []) asks.tells.word_is ∙ sym (asking-is at) in
-        let same : words ≡ asking (LOW +ℤ pos k) = is ∙ ap asking there in
-        true≢false (sym ((same_words words (asking (LOW +ℤ pos k))).1 same) ∙ none k within)
 
 spells : List ℕ → ℕ → Bool
 spells text k = bytes_eq text (monthly_text (decimal (k + 1))) || bytes_eq text (monthly_text (decimal (k + 1)) ++ 10 ∷ [])
@@ -221,17 +221,61 @@ begins_or_not set at range =
         by_value true e = refl
         by_value false e = absurd (true≢false (sym (and_from (seen set Fore (position_of at) (j + 1)) (not (seen set Fore (position_of at) j)) is (ap not e)) ∙ out))
 
-pub outcomes_exist : OutcomesExist
-outcomes_exist words text no_show =
-    elim (asks_or_not words) [
-      | inl a ↦ over a.0 a.1
-      | inr none ↦ (refused, other_words none no_show)
+-- a moment and a text have a rule, or none
+rule_or_not : (at : Stamp) (text : List ℕ) → ((day : ℕ) × HasRule at text day) ⊎ ((day : ℕ) → HasRule at text day → ⊥)
+rule_or_not at text = by_clock at.absolute refl
+  where
+    by_clock : (b : Bool) → at.absolute ≡ b → ((day : ℕ) × HasRule at text day) ⊎ ((day : ℕ) → HasRule at text day → ⊥)
+    by_clock true e = inr (λ day r. true≢false (sym e ∙ r.floating))
+    by_clock false e =
+        elim (spells_or_not text) [
+          | inl s ↦ inl (s.0, record { floating = e; spelled = s.1 })
+          | inr none ↦ inr (λ day r. none day r.spelled)
+        ]
+
+-- a fault other than want of memory has a line
+some_line : (fault : TextFault) → IsTold (Err fault) → (line : List ℕ) × (fault_line fault ≡ Some line)
+some_line faults.Long h = (_, refl)
+some_line (faults.Token byte) h = (_, refl)
+some_line faults.Unbuilt h = (_, refl)
+some_line faults.Syntax h = (_, refl)
+some_line (faults.Moment byte) h = (_, refl)
+some_line (faults.Sort fault) h = (_, refl)
+some_line faults.Memory h = absurd (h refl)
+
+faulty_reply : (text : List ℕ) (query : Query) (fault : TextFault) → IsOfLanguage text query → IsAnswer text (Err fault) → IsTold (Err fault) → (o : Outcome) × IsReply text query o
+faulty_reply text query fault other is h = let line = some_line fault h in (refused_by line.0, faulty query fault line.0 other is line.1)
+
+over_trees : (at : Stamp) (budget : ℕ) (trees : Trees) → IsCalendarMoment at.moment.0 → sort_fault trees ≡ None → (o : Outcome) × IsNextOver at budget trees o
+over_trees at budget trees range sorted = by_second trees.second refl
+  where
+    by_clock : (sort : Sort) → IsAlone trees sort → (b : Bool) → clocks_differ at sort ≡ b → (o : Outcome) × IsNextOver at budget trees o
+    by_clock sort alone true e = (refused_by (codes "refused clock\n"), clock sort alone e)
+    by_clock sort alone false e =
+        let p : IsCalendarPosition (position_of at.moment.0) = (omega (arith, floor_arith, range.0), omega (arith, floor_arith, range.1)) in
+        let near = some_next (is_member trees.first) (window_of trees.first) (position_of at.moment.0) p in
+        (told at sort near.0, searched sort (told at sort near.0) alone e (next near.0 near.1))
+
+    by_second : (second : Option Tree) → trees.second ≡ second → (o : Outcome) × IsNextOver at budget trees o
+    by_second (Some second) e = (refused_by (codes "refused two\n"), two second e)
+    by_second None e = let sort = sort_of_first trees sorted in let alone : IsAlone trees sort.0 = record { alone = e; sorted = sort.1 } in by_clock sort.0 alone (clocks_differ at sort.0) refl
+
+reply_to : (text : List ℕ) (query : Query) (read : Result Program TextFault) → IsInRange query → IsAnswer text read → IsTold read → (o : Outcome) × IsReply text query o
+reply_to text Show (Ok program) range is h = (answered (print_program (trees_of program)), shown program is)
+reply_to text Show (Err fault) range is h = faulty_reply text Show fault tt is h
+reply_to text (Next at budget) read range is h =
+    elim (rule_or_not at text) [
+      | inl r ↦ (let line = begins_or_not (moments_in (is_monthly r.0)) at.moment.0 range.0 in (answered line.0, monthly at budget r.0 line.0 r.1 line.1))
+      | inr none ↦ by_read read is h none
     ]
   where
-    over : (at : ℤ) → AsksNext words at → (o : Outcome) × IsOutcome words text o
-    over at asks =
-        elim (spells_or_not text) [
-          | inl s ↦ (let line = begins_or_not (moments_in (is_monthly s.0)) at asks.tells.in_range in
-              (answered line.0, next at s.0 line.0 asks s.1 line.1))
-          | inr other ↦ (refused, other_text at asks other)
-        ]
+    by_read : (read : Result Program TextFault) → IsAnswer text read → IsTold read → IsOfLanguage text (Next at budget) → (o : Outcome) × IsReply text (Next at budget) o
+    by_read (Ok program) is h none = let over = over_trees at budget (trees_of program) range.0 is.2.sorted in (over.0, by_trees at budget program over.0 none is over.1)
+    by_read (Err fault) is h none = faulty_reply text (Next at budget) fault none is h
+
+pub outcomes_exist : AnswersExist → OutcomesExist
+outcomes_exist exist words text read is h = by_answer (exist words).0 (exist words).1
+  where
+    by_answer : (answer : Result Query WordsFault) → IsAnswerOf words answer → (o : Outcome) × IsOutcome words text o
+    by_answer (Ok query) asks = let reply = reply_to text query read (asks_in_range words query asks) is h in (reply.0, replied query reply.0 asks reply.1)
+    by_answer (Err fault) r = (refused_by (words_line fault), bad_words fault r)

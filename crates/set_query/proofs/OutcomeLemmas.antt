@@ -1,15 +1,28 @@
 -- The outcome of a text from its first bytes, and what was put of it.
-use Rattle.std.proofs.Common.{◌≡◌, ◌≤◌, ◌<◌, ◌⊎◌, [], ℕ, ℤ, List, length, take, drop, decimal, sym, ◌∙◌, ap, subst, arith, inl, inr, lit<, Option, Some, None, IfSome, Err, refl}
+use Rattle.std.proofs.Common.{◌≡◌, ◌≢◌, ◌≤◌, ◌<◌, ◌⊎◌, [], ℕ, ℤ, List, length, take, drop, decimal, sym, ◌∙◌, ap, subst, arith, inl, inr, lit<, Option, Some, None, IfSome, Ok, Err, refl}
 use Rattle.std.proofs.lemmas.Bool.{cases_lt}
 use Rattle.std.proofs.lemmas.Fmt.{length-decimal-le}
 use Rattle.std.proofs.lemmas.Grind.{common_steps}
 use Rattle.expr_text.specs.Accepted.{IsAnswer, LONGEST}
 use Rattle.expr_text.specs.declared.fault.TextFault.{TextFault}
 use Rattle.expr_text.specs.declared.fault.TextFault.TheVariants as faults
-use Rattle.set_query.specs.Effects.{IsDone, IsWritten, IsOutcomeOf, Answers, BreaksOff, ReadsFront}
-use Rattle.set_query.specs.Refusals.{fault_line}
-use Rattle.set_query.specs.Report.{Outcome, IsOutcome, other_words, other_text, next, shown, faulty}
-use Rattle.set_query.specs.Texts.{AsksNext, AsksShow, IsReadAs, SpellsMonthly, IsLine, monthly_text}
+use Rattle.expr_tree.specs.Tree.{Tree, Trees, trees_of}
+use Rattle.expr_tree.specs.declared.sorting.Sort.{Sort}
+use Rattle.expr_tree.specs.declared.tree.Program.{Program}
+use Rattle.expr_text.proofs.OneAnswer.{one_answer}
+use Rattle.moment_core.specs.declared.line.Stamp.{Stamp}
+use Rattle.outside_core.specs.Outside.{Rose}
+use Rattle.query_words.specs.Laws.{AnswersAreUnique}
+use Rattle.query_words.specs.Words.{Asks, IsRefused}
+use Rattle.query_words.specs.declared.queries.Query.{Query}
+use Rattle.query_words.specs.declared.queries.Query.TheVariants.{Next, Show}
+use Rattle.query_words.specs.declared.queries.WordsFault.{WordsFault}
+use Rattle.span_core.specs.declared.answers.Near.{Near}
+use Rattle.span_core.specs.declared.answers.Near.TheVariants as nears
+use Rattle.set_query.specs.Effects.{IsDone, IsReported, IsWritten, IsOutcomeOf, Answers, BreaksOff, ReadsFront}
+use Rattle.set_query.specs.Refusals.{fault_line, words_line}
+use Rattle.set_query.specs.Report.{Outcome, IsAmple, IsAmpleOf, IsNextOver, IsOfLanguage, IsOutcome, IsReply, IsSearched, bad_words, by_trees, clock, faulty, monthly, next, refused_by, replied, searched, shown, status_of, stopped, two}
+use Rattle.set_query.specs.Texts.{HasRule, SpellsMonthly, IsLine, monthly_text}
 
 -- the texts that are answered are short
 short_line : (text : List ℕ) (day : ℕ) → SpellsMonthly text day → length text < 33
@@ -38,11 +51,11 @@ from_front n text h =
     length-take-le : (text : List ℕ) (n : ℕ) → n ≤ length text → length (take n text) ≡ n
     length-take-le text n h = grind (arith, common_steps)
 
-to_whole : (text : List ℕ) (day : ℕ) → SpellsMonthly (take 33 text) day → SpellsMonthly text day
-to_whole text day s = subst (λ z. SpellsMonthly z day) (from_front 33 text (short_line (take 33 text) day s)) s
+to_whole : (text : List ℕ) (day : ℕ) → SpellsMonthly (take 65_537 text) day → SpellsMonthly text day
+to_whole text day s = subst (λ z. SpellsMonthly z day) (from_front 65_537 text (omega (arith, short_line (take 65_537 text) day s))) s
 
-to_front : (text : List ℕ) (day : ℕ) → SpellsMonthly text day → SpellsMonthly (take 33 text) day
-to_front text day s = subst (λ z. SpellsMonthly z day) (sym (take-short text 33 (omega (arith, short_line text day s)))) s
+to_front : (text : List ℕ) (day : ℕ) → SpellsMonthly text day → SpellsMonthly (take 65_537 text) day
+to_front text day s = subst (λ z. SpellsMonthly z day) (sym (take-short text 65_537 (omega (arith, short_line text day s)))) s
 
 -- an answer over the first bytes is one over the text
 nothing_longer : (fault : TextFault) (line text : List ℕ) → fault_line fault ≡ Some line → IsAnswer text (Err fault) → (fault ≡ faults.Long) ⊎ (length text ≤ LONGEST)
@@ -67,78 +80,204 @@ answer_whole fault line text e h =
       | inr short ↦ subst (λ z. IsAnswer z (Err fault)) (from_front 65_537 text (omega (arith, short))) h
     ]
 
--- words ask for one command
-pub asks_one : (words : List (List ℕ)) (at : ℤ) → AsksNext words at → AsksShow words → ⊥
-asks_one words at asks show = let two : 2 ≡ 1 = ap length (sym asks.words_are ∙ show) in absurd (omega (arith, two))
+-- what is asked over the first bytes is asked over the text
+rule_whole : (at : Stamp) (text : List ℕ) (day : ℕ) → HasRule at (take 65_537 text) day → HasRule at text day
+rule_whole at text day r = record { floating = r.floating; spelled = to_whole text day r.spelled }
 
--- how many bytes are read for a command
-pub data IsRoom (words : List (List ℕ)) : ℕ → Type 0 where
-  for_next : (at : ℤ) → AsksNext words at → IsRoom words 33
-  for_show : AsksShow words → IsRoom words 65_537
+rule_front : (at : Stamp) (text : List ℕ) (day : ℕ) → HasRule at text day → HasRule at (take 65_537 text) day
+rule_front at text day r = record { floating = r.floating; spelled = to_front text day r.spelled }
 
-pub IsOutcome-from_front : (words : List (List ℕ)) (room : ℕ) (text : List ℕ) {o : Outcome} → IsRoom words room → IsOutcome words (take room text) o → IsOutcome words text o
-IsOutcome-from_front words room text r (other_words none no_show) = other_words none no_show
-IsOutcome-from_front words room text (for_next at asks) (other_text at_b asks_b none) = other_text at_b asks_b (λ day s. none day (to_front text day s))
-IsOutcome-from_front words room text (for_show show) (other_text at asks none) = absurd (asks_one words at asks show)
-IsOutcome-from_front words room text (for_next at asks) (next at_b day line asks_b s is) = next at_b day line asks_b (to_whole text day s) is
-IsOutcome-from_front words room text (for_show show) (next at day line asks s is) = absurd (asks_one words at asks show)
-IsOutcome-from_front words room text (for_next at asks) (shown trees show is) = absurd (asks_one words at asks show)
-IsOutcome-from_front words room text (for_show show) (shown trees show_b is) = let few = is.found.short in shown trees show_b (subst (λ z. IsReadAs z trees) (from_front 65_537 text (omega (arith, few))) is)
-IsOutcome-from_front words room text (for_next at asks) (faulty fault line show is e) = absurd (asks_one words at asks show)
-IsOutcome-from_front words room text (for_show show) (faulty fault line show_b is e) = faulty fault line show_b (answer_whole fault line text e is) e
+language_whole : (text : List ℕ) (query : Query) → IsOfLanguage (take 65_537 text) query → IsOfLanguage text query
+language_whole text Show h = tt
+language_whole text (Next at budget) h = λ day r. h day (rule_front at text day r)
 
--- the outcome over the bytes that were read is one over the text
-pub IsOutcomeOf-front : (words : List (List ℕ)) (room : ℕ) (before after : Option (List ℕ)) (bytes : List ℕ) (o : Outcome) → IsRoom words room → ReadsFront room before after bytes → IsOutcome words bytes o → IsOutcomeOf words before o
-IsOutcomeOf-front words room None after bytes o r h is = record { text = bytes; told = tt; as_asked = is }
-IsOutcomeOf-front words room (Some text) after bytes o r h is =
-    record { text = text; told = refl; as_asked = IsOutcome-from_front words room text r (subst (λ z. IsOutcome words z o) h.0 is) }
+read_whole : (text : List ℕ) (program : Program) → IsAnswer (take 65_537 text) (Ok program) → IsAnswer text (Ok program)
+read_whole text program is =
+    let few = is.1.short in
+    subst (λ z. IsAnswer z (Ok program)) (from_front 65_537 text (omega (arith, few))) is
+
+reply_whole : (text : List ℕ) {query : Query} {o : Outcome} → IsReply (take 65_537 text) query o → IsReply text query o
+reply_whole text (shown program is) = shown program (read_whole text program is)
+reply_whole text (monthly at budget day line r is) = monthly at budget day line (rule_whole at text day r) is
+reply_whole text (by_trees at budget program o other is over) = by_trees at budget program o (language_whole text (Next at budget) other) (read_whole text program is) over
+reply_whole text (faulty query fault line other is e) = faulty query fault line (language_whole text query other) (answer_whole fault line text e is) e
+
+outcome_whole : (words : List (List ℕ)) (text : List ℕ) {o : Outcome} → IsOutcome words (take 65_537 text) o → IsOutcome words text o
+outcome_whole words text (bad_words fault r) = bad_words fault r
+outcome_whole words text (replied query o asks r) = replied query o asks (reply_whole text r)
+
+IsOutcomeOf-front : (words : List (List ℕ)) (before after : Option (List ℕ)) (bytes : List ℕ) (o : Outcome) → ReadsFront 65_537 before after bytes → IsOutcome words bytes o → IsOutcomeOf words before o
+IsOutcomeOf-front words None after bytes o h is = record { text = bytes; told = tt; as_asked = is }
+IsOutcomeOf-front words (Some text) after bytes o h is =
+    record { text = text; told = refl; as_asked = outcome_whole words text (subst (λ z. IsOutcome words z o) h.0 is) }
 
 -- the words alone decide
-pub IsOutcomeOf-any : (words : List (List ℕ)) (left : Option (List ℕ)) (o : Outcome) → ((text : List ℕ) → IsOutcome words text o) → IsOutcomeOf words left o
+IsOutcomeOf-any : (words : List (List ℕ)) (left : Option (List ℕ)) (o : Outcome) → ((text : List ℕ) → IsOutcome words text o) → IsOutcomeOf words left o
 IsOutcomeOf-any words None o all = record { text = []; told = tt; as_asked = all [] }
 IsOutcomeOf-any words (Some text) o all = record { text = text; told = refl; as_asked = all text }
 
--- outcomes have status 0 or 2
+-- outcomes have status 0, 2 or 3
+near_done : (near : Near) → IsDone (status_of near)
+near_done (nears.Found run) = inl refl
+near_done (nears.None w) = inl refl
+near_done nears.Edge = inl refl
+near_done (nears.Budget s) = inr (inr refl)
+
+searched_done : {at : Stamp} {budget : ℕ} {t : Tree} {sort : Sort} {o : Outcome} → IsSearched at budget t sort o → IsDone o.status
+searched_done (next near is) = near_done near
+searched_done (stopped s is not) = inr (inr refl)
+
+over_done : {at : Stamp} {budget : ℕ} {trees : Trees} {o : Outcome} → IsNextOver at budget trees o → IsDone o.status
+over_done (two second e) = inr (inl refl)
+over_done (clock sort is e) = inr (inl refl)
+over_done (searched sort o is e over) = searched_done over
+
+reply_done : {text : List ℕ} {query : Query} {o : Outcome} → IsReply text query o → IsDone o.status
+reply_done (shown program is) = inl refl
+reply_done (monthly at budget day line r is) = inl refl
+reply_done (by_trees at budget program o other is over) = over_done over
+reply_done (faulty query fault line other is e) = inr (inl refl)
+
 status_done : {words : List (List ℕ)} {text : List ℕ} {o : Outcome} → IsOutcome words text o → IsDone o.status
-status_done (other_words none no_show) = inr refl
-status_done (other_text at asks none) = inr refl
-status_done (next at day line asks s is) = inl refl
-status_done (shown trees show is) = inl refl
-status_done (faulty fault line show is e) = inr refl
+status_done (bad_words fault r) = inr (inl refl)
+status_done (replied query o asks r) = reply_done r
 
--- one write of an outcome
-module _ {words : List (List ℕ)} {left before after : Option (List ℕ)} {old new status : ℕ} {o : Outcome} (of_words : IsOutcomeOf words left o) (w : IsWritten before after old new o status) where
-  pub status_is_one : IsDone status ⊎ (status ≡ 5)
-  status_is_one = elim w.either [ inl same ↦ inl (subst IsDone (sym same) (status_done of_words.as_asked)) | inr five ↦ inr five ]
+-- with an ample budget no search stops
+never_stops : {at : Stamp} {budget : ℕ} {t : Tree} {sort : Sort} {o : Outcome} → IsSearched at budget t sort o → o.status ≡ 3 → IsAmpleOf t at.moment.0 budget → ⊥
+never_stops (next (nears.Found run) is) e ample = absurd (omega (arith, e))
+never_stops (next (nears.None w) is) e ample = absurd (omega (arith, e))
+never_stops (next nears.Edge is) e ample = absurd (omega (arith, e))
+never_stops (next (nears.Budget s) is) e ample = is
+never_stops (stopped s is not) e ample = not ample
 
-  pub Answers-by : IsDone status → Answers words left before after status
-  Answers-by is =
-      elim w.either [
-        | inl same ↦ record { outcome = o; of_words = of_words; status_is = same; put = w.whole same }
-        | inr five ↦ absurd (grind arith)
-      ]
+over_stops : {at : Stamp} {budget : ℕ} {trees : Trees} {o : Outcome} → IsNextOver at budget trees o → o.status ≡ 3 → IsAmpleOf trees.first at.moment.0 budget → ⊥
+over_stops (two second is) e ample = absurd (omega (arith, e))
+over_stops (clock sort is d) e ample = absurd (omega (arith, e))
+over_stops (searched sort o is d over) e ample = never_stops over e ample
 
-  pub BreaksOff-by : status ≡ 5 → BreaksOff words left before after
-  BreaksOff-by five = record { outcome = o; of_words = of_words; n = (w.part five).0; put = (w.part five).1 }
+reply_stops : (text : List ℕ) (query : Query) (o : Outcome) → IsReply text query o → o.status ≡ 3 → IsAmple text query → ⊥
+reply_stops text query o (shown program is) e ample = absurd (omega (arith, e))
+reply_stops text query o (monthly at budget day line r is) e ample = absurd (omega (arith, e))
+reply_stops text query o (faulty query_r fault line other is d) e ample = absurd (omega (arith, e))
+reply_stops text query o (by_trees at budget program o_r other is over) e ample =
+    let asked : Next at budget ≡ Next ample.at ample.budget = ample.asked in
+    let same_at : ample.at ≡ at = cc in
+    let same_budget : ample.budget ≡ budget = cc in
+    let same : trees_of ample.program ≡ trees_of program = one_answer text (Ok ample.program) (Ok program) ample.read is tt tt in
+    over_stops over e (subst (λ b. IsAmpleOf (trees_of program).first at.moment.0 b) same_budget (subst (λ (s : Stamp). IsAmpleOf (trees_of program).first s.moment.0 ample.budget) same_at (subst (λ (t : Trees). IsAmpleOf t.first ample.at.moment.0 ample.budget) same ample.ample)))
+
+outcome_stops : AnswersAreUnique → (words : List (List ℕ)) (text : List ℕ) (query : Query) (o : Outcome) → IsOutcome words text o → Asks words query → IsAmple text query → o.status ≡ 3 → ⊥
+outcome_stops unique words text query o (bad_words fault r) asks ample e = absurd (omega (arith, e))
+outcome_stops unique words text query o (replied query_r o_r asked r) asks ample e =
+    let both = unique words (Ok query_r) (Ok query) asked asks in
+    let same : query ≡ query_r = cc in
+    reply_stops text query_r o r e (subst (λ (q : Query). IsAmple text q) same ample)
 
 -- a text that is answered has fewer bytes than are read
-short_of : (words : List (List ℕ)) (room : ℕ) {text : List ℕ} → IsRoom words room → (o : Outcome) → IsOutcome words text o → 0 ≡ o.status → length text < room
-short_of words room k o (other_words none no_show) e = absurd (omega arith)
-short_of words room k o (other_text at asks none) e = absurd (omega arith)
-short_of words room (for_next at asks) o (next at_b day line asks_b s is) e = short_line _ day s
-short_of words room (for_show show) o (next at day line asks s is) e = absurd (asks_one words at asks show)
-short_of words room (for_next at asks) o (shown trees show is) e = absurd (asks_one words at asks show)
-short_of words room (for_show show) o (shown trees show_b is) e = let few = is.found.short in omega (arith, few)
-short_of words room k o (faulty fault line show is g) e = absurd (omega arith)
+reply_short : {text : List ℕ} {query : Query} {o : Outcome} → IsReply text query o → o.status ≢ 2 → length text < 65_537
+reply_short (shown program is) e = let few = is.1.short in omega (arith, few)
+reply_short {text} (monthly at budget day line r is) e = let few = short_line text day r.spelled in omega (arith, few)
+reply_short (by_trees at budget program o other is over) e = let few = is.1.short in omega (arith, few)
+reply_short (faulty query fault line other is d) e = absurd (e refl)
+
+outcome_short : {words : List (List ℕ)} {text : List ℕ} {o : Outcome} → IsOutcome words text o → o.status ≢ 2 → length text < 65_537
+outcome_short (bad_words fault r) e = absurd (e refl)
+outcome_short (replied query o asks r) e = reply_short r e
 
 -- so it was read to its end
-pub ended-from_answers : (words : List (List ℕ)) (room : ℕ) (left rest before after : Option (List ℕ)) (status : ℕ) → IsRoom words room → Answers words left before after status → status ≡ 0 → IfSome left (λ text. rest ≡ Some (drop room text)) → IfSome left (λ text. rest ≡ Some [])
-ended-from_answers words room None rest before after status k a zero r = tt
-ended-from_answers words room (Some text) rest before after status k a zero r =
-    let few : length text < room = rw a.of_words.told (short_of words room k a.outcome a.of_words.as_asked (sym zero ∙ a.status_is)) in
-    let all : drop room text ≡ [] = drop-short text room (omega arith) in
-    r ∙ ap Some all
+ended-from_answers : (words : List (List ℕ)) (left rest before after : Option (List ℕ)) (bytes : List ℕ) (status : ℕ) → ReadsFront 65_537 left rest bytes → Answers words left before after status → status ≢ 2 → IfSome left (λ text. rest ≡ Some [])
+ended-from_answers words None rest before after bytes status front a not = tt
+ended-from_answers words (Some text) rest before after bytes status front a not =
+    let few : length text < 65_537 = rw a.of_words.told (outcome_short a.of_words.as_asked (λ e. not (a.status_is ∙ e))) in
+    let all : drop 65_537 text ≡ [] = drop-short text 65_537 (omega arith) in
+    front.1 ∙ ap Some all
 
-pub rest-from_front : (room : ℕ) (left rest : Option (List ℕ)) (bytes : List ℕ) → ReadsFront room left rest bytes → IfSome left (λ text. rest ≡ Some (drop room text))
-rest-from_front room None rest bytes h = tt
-rest-from_front room (Some text) rest bytes h = h.1
+pub rest-from_front : (left rest : Option (List ℕ)) (bytes : List ℕ) → ReadsFront 65_537 left rest bytes → IfSome left (λ text. rest ≡ Some (drop 65_537 text))
+rest-from_front None rest bytes h = tt
+rest-from_front (Some text) rest bytes h = h.1
+
+-- one write of an outcome of the words, or none for want of memory
+abbrev pub Ends : Type 0 → List (List ℕ) → Option (List ℕ) → Option (List ℕ) → Option (List ℕ) → ℕ → ℕ → ℕ → Type 0
+Ends Same words left before after old new status = IsReported (IsOutcomeOf words left) before after old new status ⊎ (status ≡ 6) × Same
+
+pub refused-ends : {Same : Type 0} (words : List (List ℕ)) (left before after : Option (List ℕ)) (old new status : ℕ) (fault : WordsFault) → IsRefused words fault → IsWritten before after old new (refused_by (words_line fault)) status → Ends Same words left before after old new status
+refused-ends words left before after old new status fault r w =
+    inl (record {
+      outcome = refused_by (words_line fault);
+      as_asked = IsOutcomeOf-any words left (refused_by (words_line fault)) (λ text. bad_words fault r);
+      written = w;
+    })
+
+pub replied-ends : {Same : Type 0} (words : List (List ℕ)) (left rest before after : Option (List ℕ)) (old new status : ℕ) (query : Query) (bytes : List ℕ) → Asks words query → ReadsFront 65_537 left rest bytes → (IsReported (IsReply bytes query) before after old new status ⊎ (status ≡ 6) × Same) → Ends Same words left before after old new status
+replied-ends words left rest before after old new status query bytes asks front (inr six) = inr six
+replied-ends words left rest before after old new status query bytes asks front (inl r) =
+    inl (record {
+      outcome = r.outcome;
+      as_asked = IsOutcomeOf-front words left rest bytes r.outcome front (replied query r.outcome asks r.as_asked);
+      written = r.written;
+    })
+
+pub ends_ample : AnswersAreUnique → (words : List (List ℕ)) (left before after : Option (List ℕ)) (status : ℕ) (query : Query) → (IsDone status → Answers words left before after status) → Asks words query → IfSome left (λ text. IsAmple text query → status ≢ 3)
+ends_ample unique words None before after status query done asks = tt
+ends_ample unique words (Some text) before after status query done asks = λ ample three.
+    let a = done (inr (inr three)) in
+    let same : text ≡ a.of_words.text = a.of_words.told in
+    outcome_stops unique words a.of_words.text query a.outcome a.of_words.as_asked asks (subst (λ z. IsAmple z query) same ample) (sym a.status_is ∙ three)
+
+module _ (Same : Type 0) (words : List (List ℕ)) (left before after : Option (List ℕ)) (old new status : ℕ) where
+  -- the status is one of an outcome, or 5
+  reported_status : (r : IsReported (IsOutcomeOf words left) before after old new status) → IsDone status ⊎ (status ≡ 5)
+  reported_status r = elim r.written.either [ inl same ↦ inl (subst IsDone (sym same) (status_done r.as_asked.as_asked)) | inr five ↦ inr five ]
+
+  pub ends_statuses : Ends Same words left before after old new status → IsDone status ⊎ (status ≡ 4) ⊎ (status ≡ 5) ⊎ (status ≡ 6)
+  ends_statuses (inr six) = inr (inr (inr six.0))
+  ends_statuses (inl r) = elim (reported_status r) [ inl done ↦ inl done | inr five ↦ inr (inr (inl five)) ]
+
+  pub ends_complete : Ends Same words left before after old new status → (Rose old new → ⊥) → IsDone status ⊎ (status ≡ 6)
+  ends_complete (inr six) none = inr six.0
+  ends_complete (inl r) none = elim (reported_status r) [ inl done ↦ inl done | inr five ↦ absurd (none (r.written.failed five)) ]
+
+  not_four : IsDone status → status ≡ 4 → ⊥
+  not_four (inl a) e = absurd (omega (arith, a, e))
+  not_four (inr (inl a)) e = absurd (omega (arith, a, e))
+  not_four (inr (inr a)) e = absurd (omega (arith, a, e))
+
+  not_five : IsDone status → status ≡ 5 → ⊥
+  not_five (inl a) e = absurd (omega (arith, a, e))
+  not_five (inr (inl a)) e = absurd (omega (arith, a, e))
+  not_five (inr (inr a)) e = absurd (omega (arith, a, e))
+
+  not_six : IsDone status → status ≡ 6 → ⊥
+  not_six (inl a) e = absurd (omega (arith, a, e))
+  not_six (inr (inl a)) e = absurd (omega (arith, a, e))
+  not_six (inr (inr a)) e = absurd (omega (arith, a, e))
+
+  pub ends_done : Ends Same words left before after old new status → IsDone status → Answers words left before after status
+  ends_done (inr six) done = absurd (not_six done six.0)
+  ends_done (inl r) done =
+      elim r.written.either [
+        | inl same ↦ record { outcome = r.outcome; of_words = r.as_asked; status_is = same; put = r.written.whole same }
+        | inr five ↦ absurd (not_five done five)
+      ]
+
+  pub ends_read : Ends Same words left before after old new status → status ≡ 4 → ⊥
+  ends_read (inr six) four = let is = six.0 in absurd (omega (arith, is, four))
+  ends_read (inl r) four = elim (reported_status r) [ inl done ↦ absurd (not_four done four) | inr five ↦ absurd (omega (arith, five, four)) ]
+
+  pub ends_sink_fault : Ends Same words left before after old new status → status ≡ 5 → Rose old new × BreaksOff words left before after
+  ends_sink_fault (inr six) five = let is = six.0 in absurd (omega (arith, is, five))
+  ends_sink_fault (inl r) five = (r.written.failed five, record { outcome = r.outcome; of_words = r.as_asked; n = (r.written.part five).0; put = (r.written.part five).1 })
+
+  pub ends_memory : Ends Same words left before after old new status → status ≡ 6 → Same
+  ends_memory (inr six) e = six.1
+  ends_memory (inl r) e = elim (reported_status r) [ inl done ↦ absurd (not_six done e) | inr five ↦ absurd (omega (arith, five, e)) ]
+
+  pub ends_counted : Ends Same words left before after old new status → (Same → old ≤ new) → old ≤ new
+  ends_counted (inr six) same = same six.1
+  ends_counted (inl r) same = r.written.counted
+
+pub ends_ended : (Same : Type 0) (words : List (List ℕ)) (left rest before after : Option (List ℕ)) (old new status : ℕ) (bytes : List ℕ) → ReadsFront 65_537 left rest bytes → Ends Same words left before after old new status → ((status ≡ 0) ⊎ (status ≡ 3)) → IfSome left (λ text. rest ≡ Some [])
+ends_ended Same words left rest before after old new status bytes front e (inl zero) =
+    ended-from_answers words left rest before after bytes status front (ends_done Same words left before after old new status e (inl zero)) (λ two_s. absurd (omega (arith, zero, two_s)))
+ends_ended Same words left rest before after old new status bytes front e (inr three) =
+    ended-from_answers words left rest before after bytes status front (ends_done Same words left before after old new status e (inr (inr three))) (λ two_s. absurd (omega (arith, three, two_s)))

@@ -1,11 +1,12 @@
 -- Texts and the digits in them.
-use Rattle.std.proofs.Common.{◌≡◌, ◌≢◌, ◌<◌, ◌++◌, ◌∷◌, ℕ, List, [], codes, decimal, refl, sym, ◌∙◌, ap, inl, inr, arith, lit<, Option, Some, None, Bor}
+use Rattle.std.proofs.Common.{◌≡◌, ◌≢◌, ◌<◌, ◌++◌, ◌∷◌, ℕ, List, [], codes, decimal, refl, sym, ◌∙◌, ap, inl, inr, arith, lit<, Option, Some, None, IfNone, Bor}
 use Rattle.std.proofs.lemmas.Fmt.{IsAscii-decimal}
 use Rattle.std.proofs.lemmas.List.{append_cancel_left, append_cancel_right}
 use Rattle.std.proofs.lemmas.Str.{IsUtf8-from_ascii}
 use Rattle.std.specs.Option.{MatchOption, unwrap_or}
 use Rattle.std.specs.Str.{IsUtf8}
-use Rattle.set_query.specs.Texts.{IsLine, monthly_text}
+use Rattle.moment_core.specs.declared.line.Stamp.{Stamp}
+use Rattle.set_query.specs.Texts.{HasRule, IsLine, SpellsMonthly, monthly_text}
 
 -- what is left where a line feed at the end is taken off
 pub stripped_line : (line : Bor (List ℕ)) (r : Option (Bor (List ℕ))) → MatchOption r ((front : List ℕ) → line.now ≢ front ++ 10 ∷ []) (λ x. line.now ≡ x.now ++ 10 ∷ []) → IsLine line.now (unwrap_or r line).now
@@ -53,3 +54,8 @@ one_digits line a b h k =
     kept : (front : List ℕ) → line ≡ front ++ 10 ∷ [] → IsLine line (monthly_text a) → monthly_text a ≡ front
     kept front e (inl same) = absurd (no_line_feed front a (sym same ∙ e))
     kept front e (inr same) = append_cancel_right (monthly_text a) front (10 ∷ []) (sym same ∙ e)
+
+-- without a day that the text spells there is no rule
+pub no_rule : (at : Stamp) (text : List ℕ) (day : Option ℕ) → IfNone day ((n : ℕ) → SpellsMonthly text n → ⊥) → IfNone day ((n : ℕ) → HasRule at text n → ⊥)
+no_rule at text None h = λ n r. h n r.spelled
+no_rule at text (Some day) h = tt

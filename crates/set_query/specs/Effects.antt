@@ -9,7 +9,7 @@ ReadsFront room before after bytes = IfSome before (λ text. (bytes ≡ take roo
 
 -- a status after which everything was written
 abbrev pub IsDone : ℕ → Type 0
-IsDone status = (status ≡ 0) ⊎ (status ≡ 2)
+IsDone status = (status ≡ 0) ⊎ (status ≡ 2) ⊎ (status ≡ 3)
 
 -- one write of the bytes of an outcome: its status, or 5 and the first of the bytes
 pub record IsWritten (before after : Option (List ℕ)) (old new : ℕ) (outcome : Outcome) (status : ℕ) : Type 0 where
@@ -19,10 +19,10 @@ pub record IsWritten (before after : Option (List ℕ)) (old new : ℕ) (outcome
   pub part : status ≡ 5 → (n : ℕ) × Puts before after (take n outcome.bytes)
   pub failed : status ≡ 5 → Rose old new
 
--- one write of the outcome of the words over the text
-pub record IsReported (words : List (List ℕ)) (text : List ℕ) (before after : Option (List ℕ)) (old new status : ℕ) : Type 0 where
+-- one write of an outcome that is asked
+pub record IsReported (Is : Outcome → Type 0) (before after : Option (List ℕ)) (old new status : ℕ) : Type 0 where
   pub outcome : Outcome
-  pub as_asked : IsOutcome words text outcome
+  pub as_asked : Is outcome
   pub written : IsWritten before after old new outcome status
 
 -- the outcome of the words over some text, which is the text of the source where the source tells it

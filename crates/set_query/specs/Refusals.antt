@@ -1,9 +1,16 @@
--- The lines that refuse a text of the language.
+-- The lines that refuse words or a text of the language.
 use Rattle.std.specs.Prelude.{◌++◌, ◌∷◌, [], ℕ, List, codes, decimal, Option, Some, None}
 use Rattle.expr_text.specs.declared.fault.TextFault.{TextFault}
 use Rattle.expr_text.specs.declared.fault.TextFault.TheVariants.{Long, Token, Unbuilt, Syntax, Moment, Sort, Memory}
 use Rattle.expr_tree.specs.declared.sorting.SortFault.{SortFault}
 use Rattle.expr_tree.specs.declared.sorting.SortFault.TheVariants.{Nodes, Depth, Event, Kind, Clock, Reach}
+use Rattle.query_words.specs.declared.queries.WordsFault.{WordsFault}
+use Rattle.query_words.specs.declared.queries.WordsFault.TheVariants as words
+
+-- the number of a bad word is in decimal
+abbrev pub words_line : WordsFault → List ℕ
+words_line words.Unbuilt = codes "refused unbuilt\n"
+words_line (words.Bad n) = codes "refused words " ++ decimal n ++ 10 ∷ []
 
 abbrev pub sort_line : SortFault → List ℕ
 sort_line Nodes = codes "refused sort nodes\n"

@@ -2,12 +2,12 @@
 
 ghost use Rattle.set_query.specs.Laws.{OutcomesAreUnique, OutcomesExist};
 
-use moment_text::literal_laws;
+use query_words::answer_laws;
 
-/// Words and a text have one outcome, so that a status and a line are settled by them.
+/// Words have an outcome over each text that is read as one of the language or has a fault, and one alone but for stops.
 pub fn outcome_laws()
     ensures exist { OutcomesExist }
     ensures unique { OutcomesAreUnique }
 {
-    literal_laws();
+    answer_laws();
 }

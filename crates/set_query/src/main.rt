@@ -4,17 +4,18 @@
 ghost use Rattle.std.specs.Prelude.{◌≡◌, ◌<◌};
 
 mod laws;
+mod neighbours;
 mod query;
 mod reading;
 mod refusals;
 mod search;
 mod show;
 mod texts;
-mod words;
 mod writing;
 
 use moment_core::Steps;
 use outside_core::{StdSink, StdSource};
+use query_words::WordsFault;
 use std::marker::Brand;
 use std::process::ExitCode;
 use std::sync::ledger::{Blank, Ledger};
@@ -30,8 +31,8 @@ fn words_of(rt: &HostRuntime) -> io::Result<Vec<String>> {
     Ok(words)
 }
 
-/// Answers the query over the standard streams. Words that are no text are refused as wrong words are, and without
-/// memory for them the status is 6.
+/// Answers the query over the standard streams. Words that are no text are refused as a first word that is no command
+/// is, and without memory for them the status is 6.
 fn answer<L: Ledger>(rt: &HostRuntime, blank: Blank) -> u8
     requires name { blank.name ≡ L.name }
     requires parts { blank.parts ≡ L.parts }
@@ -43,7 +44,7 @@ fn answer<L: Ledger>(rt: &HostRuntime, blank: Blank) -> u8
     let words = match words_of(rt) {
         Ok(words) => words,
         Err(e) if e.kind() == io::ErrorKind::OutOfMemory => return 6,
-        Err(_) => return writing::refuse(&mut sink),
+        Err(_) => return refusals::refuse_words(WordsFault::Bad(0), &mut sink),
     };
     let book = Book::empty(alloc);
     let mut steps = Steps::<L>::new(blank);

@@ -1,14 +1,14 @@
 //! Showing how a text of the language is read.
 
-ghost use Rattle.std.specs.Prelude.{◌≡◌, ◌⊎◌, ◌++◌, ◌∷◌, [], ℕ, List, IfOk};
+ghost use Rattle.std.specs.Prelude.{◌≡◌, ◌⊎◌, ◌++◌, ◌∷◌, [], IfOk};
 ghost use Rattle.expr_text.specs.Accepted.{AreWellFormed};
 ghost use Rattle.expr_text.specs.Printing.{print_program};
 ghost use Rattle.expr_tree.specs.Tree.{trees_of};
 ghost use Rattle.set_query.specs.Effects.{IsReported, IsWritten};
-ghost use Rattle.set_query.specs.Report.{answered};
-ghost use Rattle.set_query.specs.Texts.{AsksShow};
+ghost use Rattle.set_query.specs.Report.{IsReply, answered};
+ghost use Rattle.query_words.specs.declared.queries.Query.TheVariants.{Show};
 
-use crate::refusals::fault_line;
+use crate::refusals::refuse_text;
 use crate::writing::put;
 use expr_text::{read_program, write_program};
 use expr_tree::Program;
@@ -39,13 +39,10 @@ fn print<K: Sink>(alloc: Global, program: &Program, sink: &mut K) -> u8
 
 /// Writes the printed form of the text, or its refusal; the status is 6, and nothing is written, where no memory is left.
 pub(crate) fn show<K: Sink>(alloc: Global, text: &[u8], book: &Book, sink: &mut K) -> u8
-    ensures { ((words : List (List ℕ)) → AsksShow words → IsReported words text.now (K.taken sink.old) (K.taken sink.new) (K.faults sink.old) (K.faults sink.new) result) ⊎ (result ≡ 6) × (sink.new ≡ sink.old) }
+    ensures { IsReported (IsReply text.now Show) (K.taken sink.old) (K.taken sink.new) (K.faults sink.old) (K.faults sink.new) result ⊎ (result ≡ 6) × (sink.new ≡ sink.old) }
 {
     match read_program(alloc, text, book) {
         Ok(program) => print(alloc, &program, sink),
-        Err(fault) => match fault_line(fault) {
-            Some(line) => put(sink, &line, 2),
-            None => 6,
-        },
+        Err(fault) => refuse_text(fault, sink),
     }
 }

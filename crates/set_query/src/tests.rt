@@ -159,7 +159,7 @@ fn the_next_day_of_a_month_is_written_or_edge_or_a_refusal(rt: HostRuntime) {
             0,
             "edge\n",
         ),
-        ("next at=9901-01-01T00:00:00", "monthly(days=1)", 2, refused),
+        ("next at=9901-01-01T00:00:00", "monthly(days=1)", 2, "refused words 1\n"),
         // other texts
         ("next at=2024-01-01T00:00:00", "monthly(days=0)", 2, refused),
         (
@@ -192,7 +192,7 @@ fn the_next_day_of_a_month_is_written_or_edge_or_a_refusal(rt: HostRuntime) {
             2,
             refused,
         ),
-        ("next at=2024-01-01T00:00:00", "", 2, refused),
+        ("next at=2024-01-01T00:00:00", "", 2, "refused syntax\n"),
         // other words
         (
             "next at=2024-01-01T00:00:00Z",
@@ -204,22 +204,23 @@ fn the_next_day_of_a_month_is_written_or_edge_or_a_refusal(rt: HostRuntime) {
             "next at=2024-02-30T00:00:00",
             "monthly(days=29)",
             2,
-            refused,
+            "refused words 1\n",
         ),
         (
             "at=2024-01-01T00:00:00 next",
             "monthly(days=29)",
             2,
-            refused,
+            "refused words 0\n",
         ),
         (
             "next at=2024-01-01T00:00:00 budget=1",
             "monthly(days=29)",
-            2,
-            refused,
+            0,
+            "2024-01-29T00:00:00\n",
         ),
-        ("next", "monthly(days=29)", 2, refused),
-        ("", "monthly(days=29)", 2, refused),
+        ("next", "monthly(days=29)", 2, "refused words 1\n"),
+        ("", "monthly(days=29)", 2, "refused words 0\n"),
+        ("walk", "monthly(days=29)", 2, refused),
     ] {
         let text = Vec::from_slice(alloc, text.as_bytes()).expect(&rt, "");
         let mut source = SureSource::new(text);
@@ -238,6 +239,8 @@ fn a_failed_read_is_status_4_and_a_failed_write_status_5(rt: HostRuntime) {
     for (line, text, failed_reads, failed_writes, status) in [
         (next, "monthly(days=29)", 1usize, 0usize, 4u8),
         (next, "monthly(days=29)", 0, 1, 5),
+        (next, "empty()", 1, 0, 4),
+        (next, "empty()", 0, 1, 5),
         ("show", "empty()", 1, 0, 4),
         ("show", "empty()", 0, 1, 5),
         ("show", "(", 0, 1, 5),
@@ -288,7 +291,7 @@ fn texts_are_shown_or_refused(rt: HostRuntime) {
         ("", 0, "", 2, "refused syntax\n"),
         ("", 0, "daily( )", 2, "refused unbuilt\n"),
         ("", 0, "{2023-02-29T00:00:00}", 2, "refused moment 1\n"),
-        // the longest text, one that is too long, and one of which not all is read
+        // a text that is too long is read no further
         (" ", 65_529, "empty()", 0, "empty()\n"),
         (" ", 65_537, "", 2, "refused long\n"),
         (" ", 65_540, "", 2, "refused long\n"),
@@ -309,5 +312,72 @@ fn texts_are_shown_or_refused(rt: HostRuntime) {
         let answered = answer(alloc, &words, &mut source, &mut sink);
         assert_eq!(rt; answered, status, "at {rest}");
         assert!(rt; sink.taken() == written.as_bytes(), "at {rest}");
+    }
+}
+
+// The stop is at the first candidate, 946,771,200 seconds after 1970-01-01 by python3, at twice as many positions.
+#[test]
+fn the_next_run_of_a_set_is_written(rt: HostRuntime) {
+    let alloc = rt.alloc();
+    for (line, text, status, written) in [
+        (
+            "next at=2023-12-31T00:00:00",
+            "{2024-01-01T00:00:00}",
+            0u8,
+            "2024-01-01T00:00:00\n",
+        ),
+        (
+            "next at=2003-01-01T00:00:00",
+            "!{2003-01-01T00:00:00}",
+            0,
+            "(2003-01-01T00:00:00 .. inf)\n",
+        ),
+        (
+            "next at=2023-06-01T00:00:00",
+            "span(start 2024-01-01T00:00:00, before 2024-01-02T00:00:00) | span(start 2024-01-02T00:00:00, end 2024-01-03T00:00:00)",
+            0,
+            "[2024-01-01T00:00:00 .. 2024-01-03T00:00:00]\n",
+        ),
+        (
+            "next at=2003-01-01T00:00:00",
+            "empty()",
+            0,
+            "none 2003-01-01T00:00:00 .. 2003-01-01T00:00:01\n",
+        ),
+        ("next at=9900-12-31T23:59:59", "empty()", 0, "edge\n"),
+        // the clock of the moment
+        (
+            "next at=2023-12-31T00:00:00Z",
+            "{2024-01-01T00:00:00Z}",
+            0,
+            "2024-01-01T00:00:00Z\n",
+        ),
+        (
+            "next at=2024-01-01T00:00:00Z",
+            "{2024-01-01T00:00:00}",
+            2,
+            "refused clock\n",
+        ),
+        (
+            "next at=2023-12-31T00:00:00",
+            "{2024-01-01T00:00:00} ; empty()",
+            2,
+            "refused two\n",
+        ),
+        // a search that passes a candidate of each list
+        (
+            "next at=2000-01-01T00:00:00 budget=1",
+            "{2000-01-02T00:00:00} - {2000-01-02T00:00:00}",
+            3,
+            "budget 1893542400 0\n",
+        ),
+    ] {
+        let text = Vec::from_slice(alloc, text.as_bytes()).expect(&rt, "");
+        let mut source = SureSource::new(text);
+        let mut sink = SureSink::new(alloc, 128).expect(&rt, "");
+        let words = words_of(alloc, line).expect(&rt, "");
+        let answered = answer(alloc, &words, &mut source, &mut sink);
+        assert_eq!(rt; answered, status, "at {line}");
+        assert!(rt; sink.taken() == written.as_bytes(), "at {line}");
     }
 }

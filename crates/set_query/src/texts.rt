@@ -2,9 +2,10 @@
 
 ghost use Rattle.std.specs.Prelude.{◌≡◌, ◌≢◌, ◌<◌, ◌++◌, ◌∷◌, [], ℕ, List, decimal, Some, IfSome, IfNone, MatchOption};
 ghost use Rattle.std.specs.Int.{IsInRange};
-ghost use Rattle.set_query.specs.Texts.{IsLine, SpellsMonthly, monthly_text};
+ghost use Rattle.set_query.specs.Texts.{HasRule, IsLine, SpellsMonthly, monthly_text};
 
 use itoa::Buffer;
+use moment_core::Stamp;
 
 /// The text without a line feed at its end.
 fn without_line_feed(line: &[u8]) -> &[u8]
@@ -44,9 +45,20 @@ fn read_day(digits: &[u8]) -> Option<u8>
 }
 
 /// The day D of the month where the text is `monthly(days=D)`, with a line feed behind it or without.
-pub(crate) fn read_monthly(text: &[u8]) -> Option<u8>
+fn read_monthly(text: &[u8]) -> Option<u8>
     ensures some { IfSome result (λ day. SpellsMonthly text.now day) }
     ensures none { IfNone result ((day : ℕ) → SpellsMonthly text.now day → ⊥) }
 {
     read_day(monthly_days(without_line_feed(text))?)
+}
+
+/// The day of the rule that is answered by its sieve: where the moment is floating and the text is `monthly(days=D)`.
+pub(crate) fn rule_day(at: Stamp, text: &[u8]) -> Option<u8>
+    ensures some { IfSome result (λ day. HasRule at text.now day) }
+    ensures none { IfNone result ((day : ℕ) → HasRule at text.now day → ⊥) }
+{
+    if at.absolute {
+        return None;
+    }
+    read_monthly(text)
 }

@@ -5,7 +5,7 @@ ghost use Rattle.std.specs.Option.{ForSome};
 ghost use Rattle.moment_core.specs.Line.{IsCalendarMoment};
 ghost use Rattle.set_query.specs.Effects.{IsWritten};
 ghost use Rattle.set_query.specs.Members.{line_of};
-ghost use Rattle.set_query.specs.Report.{Outcome, answered, refused};
+ghost use Rattle.set_query.specs.Report.{Outcome, answered};
 
 use arrayvec::ArrayVec;
 use moment_core::{Moment, Stamp};
@@ -21,13 +21,6 @@ pub(crate) fn put<K: Sink>(sink: &mut K, line: &[u8], status: u8) -> u8
         Put::All => status,
         Put::Failed(_) => 5,
     }
-}
-
-/// Refuses the words, or a text that `next` isn't answered over.
-pub(crate) fn refuse<K: Sink>(sink: &mut K) -> u8
-    ensures { IsWritten (K.taken sink.old) (K.taken sink.new) (K.faults sink.old) (K.faults sink.new) refused result }
-{
-    put(sink, b"refused unbuilt\n", 2)
 }
 
 /// A piece of a line and a line feed.
