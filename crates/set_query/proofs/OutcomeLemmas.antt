@@ -17,11 +17,15 @@ use Rattle.query_words.specs.Words.{Asks, IsRefused}
 use Rattle.query_words.specs.declared.queries.Query.{Query}
 use Rattle.query_words.specs.declared.queries.Query.TheVariants.{Next, Show}
 use Rattle.query_words.specs.declared.queries.WordsFault.{WordsFault}
+use Rattle.near_search.proofs.Ampleness.{ample_for_next}
+use Rattle.cert_audit.specs.TreeFrames.{frame_of_tree}
+use Rattle.moment_core.specs.Line.{IsCalendarMoment}
+use Rattle.set_query.proofs.NextOverLemmas.{asks_in_range}
 use Rattle.span_core.specs.declared.answers.Near.{Near}
 use Rattle.span_core.specs.declared.answers.Near.TheVariants as nears
 use Rattle.set_query.specs.Effects.{IsDone, IsReported, IsWritten, IsOutcomeOf, Answers, BreaksOff, ReadsFront}
 use Rattle.set_query.specs.Refusals.{fault_line, words_line}
-use Rattle.set_query.specs.Report.{Outcome, IsAmple, IsAmpleOf, IsNextOver, IsOfLanguage, IsOutcome, IsReply, IsSearched, bad_words, by_trees, clock, faulty, monthly, next, refused_by, replied, searched, shown, status_of, stopped, two}
+use Rattle.set_query.specs.Report.{Outcome, IsAmple, IsAmpleOf, IsEnough, IsInRange, IsNextOver, IsOfLanguage, IsOutcome, IsReply, IsSearched, bad_words, by_trees, clock, faulty, monthly, next, refused_by, replied, searched, shown, status_of, stopped, two}
 use Rattle.set_query.specs.Texts.{HasRule, SpellsMonthly, IsLine, monthly_text}
 
 -- the texts that are answered are short
@@ -155,23 +159,29 @@ over_stops (two second is) e ample = absurd (omega (arith, e))
 over_stops (clock sort is d) e ample = absurd (omega (arith, e))
 over_stops (searched sort o is d over) e ample = never_stops over e ample
 
-reply_stops : (text : List ℕ) (query : Query) (o : Outcome) → IsReply text query o → o.status ≡ 3 → IsAmple text query → ⊥
-reply_stops text query o (shown program is) e ample = absurd (omega (arith, e))
-reply_stops text query o (monthly at budget day line r is) e ample = absurd (omega (arith, e))
-reply_stops text query o (faulty query_r fault line other is d) e ample = absurd (omega (arith, e))
-reply_stops text query o (by_trees at budget program o_r other is over) e ample =
+-- an ample budget by the days is one from the places
+by_places : (t : Tree) (at : ℤ) (budget : ℕ) → IsCalendarMoment at → IsEnough t at budget → IsAmpleOf t at budget
+by_places t at budget here (inl ample) = ample
+by_places t at budget here (inr ample) = ample_for_next t (frame_of_tree t) budget at here ample
+
+reply_stops : (text : List ℕ) (query : Query) (o : Outcome) → IsInRange query → IsReply text query o → o.status ≡ 3 → IsAmple text query → ⊥
+reply_stops text query o within (shown program is) e ample = absurd (omega (arith, e))
+reply_stops text query o within (monthly at budget day line r is) e ample = absurd (omega (arith, e))
+reply_stops text query o within (faulty query_r fault line other is d) e ample = absurd (omega (arith, e))
+reply_stops text query o within (by_trees at budget program o_r other is over) e ample =
     let asked : Next at budget ≡ Next ample.at ample.budget = ample.asked in
     let same_at : ample.at ≡ at = cc in
     let same_budget : ample.budget ≡ budget = cc in
     let same : trees_of ample.program ≡ trees_of program = one_answer text (Ok ample.program) (Ok program) ample.read is tt tt in
-    over_stops over e (subst (λ b. IsAmpleOf (trees_of program).first at.moment.0 b) same_budget (subst (λ (s : Stamp). IsAmpleOf (trees_of program).first s.moment.0 ample.budget) same_at (subst (λ (t : Trees). IsAmpleOf t.first ample.at.moment.0 ample.budget) same ample.ample)))
+    let enough = subst (λ b. IsEnough (trees_of program).first at.moment.0 b) same_budget (subst (λ (s : Stamp). IsEnough (trees_of program).first s.moment.0 ample.budget) same_at (subst (λ (t : Trees). IsEnough t.first ample.at.moment.0 ample.budget) same ample.ample)) in
+    over_stops over e (by_places (trees_of program).first at.moment.0 budget within.0 enough)
 
 outcome_stops : AnswersAreUnique → (words : List (List ℕ)) (text : List ℕ) (query : Query) (o : Outcome) → IsOutcome words text o → Asks words query → IsAmple text query → o.status ≡ 3 → ⊥
 outcome_stops unique words text query o (bad_words fault r) asks ample e = absurd (omega (arith, e))
 outcome_stops unique words text query o (replied query_r o_r asked r) asks ample e =
     let both = unique words (Ok query_r) (Ok query) asked asks in
     let same : query ≡ query_r = cc in
-    reply_stops text query_r o r e (subst (λ (q : Query). IsAmple text q) same ample)
+    reply_stops text query_r o (asks_in_range words query_r asked) r e (subst (λ (q : Query). IsAmple text q) same ample)
 
 -- a text that is answered has fewer bytes than are read
 reply_short : {text : List ℕ} {query : Query} {o : Outcome} → IsReply text query o → o.status ≢ 2 → length text < 65_537

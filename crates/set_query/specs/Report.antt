@@ -1,5 +1,5 @@
 -- What the words and the text ask to be written.
-use Rattle.std.specs.Prelude.{◌≡◌, ◌++◌, ◌∷◌, [], ◌≤◌, ℕ, ℤ, Bool, true, false, List, codes, Option, Some, None, Ok, Err, is_none}
+use Rattle.std.specs.Prelude.{◌≡◌, ◌++◌, ◌∷◌, [], ◌≤◌, ◌⊎◌, ℕ, ℤ, Bool, true, false, List, codes, Option, Some, None, Ok, Err, is_none}
 use Rattle.cert_audit.specs.Candidates.{candidates}
 use Rattle.cert_audit.specs.TreeFrames.{frame_of_tree}
 use Rattle.expr_text.specs.Accepted.{IsAnswer}
@@ -17,6 +17,7 @@ use Rattle.moment_core.specs.declared.line.Dir.TheVariants.{Fore}
 use Rattle.moment_core.specs.declared.line.Stamp.{Stamp}
 use Rattle.moment_core.specs.declared.line.Window.{Window}
 use Rattle.moment_text.specs.Literal.{literal_of}
+use Rattle.near_search.specs.Ample.{IsAmple as IsAmpleByDays}
 use Rattle.near_search.specs.Neighbours.{IsAmpleForNext, IsNext, IsStopWithin}
 use Rattle.query_words.specs.Words.{Asks, IsRefused}
 use Rattle.query_words.specs.declared.queries.Query.{Query}
@@ -118,6 +119,10 @@ abbrev pub IsInRange : Query → Type 0
 IsInRange Show = Unit {0}
 IsInRange (Next at budget) = IsCalendarMoment at.moment.0 × (1 ≤ budget)
 
+-- the budget is above what the searches of the tree may pass, from their places or on all days of the working range
+abbrev pub IsEnough : Tree → ℤ → ℕ → Type 0
+IsEnough t at budget = IsAmpleOf t at budget ⊎ IsAmpleByDays t budget
+
 -- where the text is one tree, the budget of a query is ample
 pub record IsAmple (text : List ℕ) (query : Query) : Type 0 where
   pub at : Stamp
@@ -125,4 +130,4 @@ pub record IsAmple (text : List ℕ) (query : Query) : Type 0 where
   pub asked : query ≡ Next at budget
   pub program : Program
   pub read : IsAnswer text (Ok program)
-  pub ample : IsAmpleOf (trees_of program).first at.moment.0 budget
+  pub ample : IsEnough (trees_of program).first at.moment.0 budget

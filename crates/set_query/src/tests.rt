@@ -159,7 +159,12 @@ fn the_next_day_of_a_month_is_written_or_edge_or_a_refusal(rt: HostRuntime) {
             0,
             "edge\n",
         ),
-        ("next at=9901-01-01T00:00:00", "monthly(days=1)", 2, "refused words 1\n"),
+        (
+            "next at=9901-01-01T00:00:00",
+            "monthly(days=1)",
+            2,
+            "refused words 1\n",
+        ),
         // other texts
         ("next at=2024-01-01T00:00:00", "monthly(days=0)", 2, refused),
         (
