@@ -6,7 +6,7 @@ ghost use Rattle.cert_audit.specs.Lowered.{frame_of_ready, members_of, tree_of_n
 ghost use Rattle.cert_audit.specs.Stamped.{AreCalendarMoments};
 ghost use Rattle.cert_audit.specs.TreeFrames.{earliest_of, frame_from, frame_of_tree, join_framed, latest_of, list_frame, span_frame, span_hi, span_lo};
 
-use crate::ends::{first_from, last_to, one_after, one_before};
+use crate::ends::{one_after, one_before};
 use crate::lowering::Ready;
 use crate::nodes::Node;
 use frame_core::{Frame, join};
@@ -115,8 +115,8 @@ fn earlier(a: Moment, b: Moment) -> Moment
 fn span_frame(span: &Span) -> Frame
     ensures { result ≡ span_frame span.now }
 {
-    let first = first_from(span.low());
-    let last = last_to(span.high());
+    let first = span.low().first_position();
+    let last = span.high().last_position();
     unchanging(span_hi(first, last), span_lo(first, last))
 }
 

@@ -11,7 +11,7 @@ ghost use Rattle.cert_audit.specs.Lowered.{tree_of_node};
 ghost use Rattle.cert_audit.specs.Stamped.{AreCalendarMoments};
 ghost use Rattle.cert_audit.specs.Turns.{IsTurn, is_past};
 
-use crate::ends::{first_from, last_to, one_after, one_before};
+use crate::ends::{one_after, one_before};
 use crate::nodes::Node;
 use moment_core::{Dir, Moment, Pos, Stamp, of};
 use span_core::{Bound, Span};
@@ -88,7 +88,7 @@ fn low_turn(low: Bound, p: Pos, dir: Dir) -> Option<Pos>
     requires { IsGiven low }
     ensures { IsTurn (λ q. reaches low q) (λ q. is_bound_at low q) dir p.0 result }
 {
-    match first_from(low) {
+    match low.first_position() {
         Some(first) => crossing(first, p, dir),
         None => None,
     }
@@ -99,7 +99,7 @@ fn high_turn(high: Bound, p: Pos, dir: Dir) -> Option<Pos>
     requires { IsGiven high }
     ensures { IsTurn (λ q. ends_after high q) (λ q. is_bound_at high q) dir p.0 result }
 {
-    match last_to(high) {
+    match high.last_position() {
         Some(last) => crossing(one_after(last), p, dir),
         None => None,
     }

@@ -22,7 +22,8 @@ use Rattle.expr_tree.specs.declared.sorting.SortFault.{SortFault}
 use Rattle.expr_tree.specs.declared.sorting.SortFault.TheVariants as faults
 use Rattle.expr_text.specs.Accepted.{AreWellFormed, IsWellFormedSecond}
 use Rattle.expr_text.specs.Faults.{fault_of, sort_fault}
-use Rattle.expr_text.specs.Printing.{is_absolute, is_join}
+use Rattle.moment_core.specs.Clocks.{is_absolute}
+use Rattle.expr_text.specs.Printing.{is_join}
 use Rattle.expr_text.specs.Trees.{bound_of, clock_of, stamps_of, tree_from, trees_from}
 
 abbrev pub stamp_at : Moment → Clock → Stamp

@@ -1,6 +1,7 @@
 -- Moments that are none, spans without a position, and trees without a sort.
 use Rattle.std.specs.Prelude.{◌≡◌, ℕ, ℤ, Bool, true, false, List, [], ◌∷◌, ◌++◌, Option, Some, None, Result, Ok, Err, option_map}
 use Rattle.std.specs.List.{AllByRecursion}
+use Rattle.moment_core.specs.Clocks.{one_clock}
 use Rattle.moment_core.specs.declared.line.Clock.{Clock}
 use Rattle.span_core.specs.Bounds.{lies_between, IsGiven, IsSpan}
 use Rattle.span_core.specs.declared.bounds.Bound.{Bound}
@@ -11,7 +12,7 @@ use Rattle.expr_tokens.specs.Plain as tokens
 use Rattle.expr_grammar.specs.Form.{Form, Forms}
 use Rattle.expr_grammar.specs.Form as forms
 use Rattle.expr_grammar.specs.Syntax.{span_places}
-use Rattle.expr_tree.specs.Sorts.{sort_of_tree, one_clock}
+use Rattle.expr_tree.specs.Sorts.{sort_of_tree}
 use Rattle.expr_tree.specs.Tree.{Trees}
 use Rattle.expr_tree.specs.declared.sorting.Sort.{Sort}
 use Rattle.expr_tree.specs.declared.sorting.SortFault.{SortFault}

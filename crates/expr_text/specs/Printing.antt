@@ -1,8 +1,8 @@
 -- The printed form.
 use Rattle.std.specs.Prelude.{ℕ, Bool, true, false, ◌&&◌, List, [], ◌∷◌, ◌++◌, Option, Some, None, codes, if◌then◌else◌}
 use Rattle.std.specs.List.{flat_map}
+use Rattle.moment_core.specs.Clocks.{is_absolute}
 use Rattle.moment_core.specs.declared.line.Clock.{Clock}
-use Rattle.moment_core.specs.declared.line.Clock.TheVariants.{Absolute}
 use Rattle.moment_core.specs.declared.line.Moment.{Moment}
 use Rattle.moment_core.specs.declared.line.Stamp.{Stamp}
 use Rattle.moment_text.specs.Literal.{literal_of}
@@ -31,10 +31,6 @@ next_stamp s = codes ", " ++ stamp_text s
 abbrev pub stamps_text : List Stamp → List ℕ
 stamps_text [] = []
 stamps_text (s ∷ ss) = stamp_text s ++ flat_map next_stamp ss
-
-abbrev pub is_absolute : Clock → Bool
-is_absolute Absolute = true
-is_absolute clock = false
 
 abbrev pub moment_text : Moment → Clock → List ℕ
 moment_text t clock = literal_of t.0 (is_absolute clock)

@@ -1,6 +1,7 @@
 -- The tree that an expression stands for.
 use Rattle.std.specs.Prelude.{Bool, true, false, List, Option, Some, None, option_map}
 use Rattle.std.specs.List.{filter_map}
+use Rattle.moment_core.specs.Clocks.{clock_of_stamp}
 use Rattle.moment_core.specs.declared.line.Clock.{Clock}
 use Rattle.moment_core.specs.declared.line.Clock.TheVariants.{Any}
 use Rattle.moment_core.specs.declared.line.Stamp.{Stamp}
@@ -11,7 +12,6 @@ use Rattle.expr_tokens.specs.declared.token.Operator.TheVariants as operators
 use Rattle.expr_grammar.specs.declared.syntax.SpanBound.{SpanBound}
 use Rattle.expr_grammar.specs.Form.{Form, Forms}
 use Rattle.expr_grammar.specs.Form as forms
-use Rattle.expr_tree.specs.Sorts.{clock_of_stamp}
 use Rattle.expr_tree.specs.Tree.{Tree, Empty, Listed, Spanned, Union, Meet, Minus, Not, Trees}
 
 -- the moments that literals name

@@ -24,13 +24,7 @@ fn clock(written: Option<SpanBound>) -> Clock
                 stamp: Some(stamp),
                 ..
             },
-        ) => {
-            if stamp.absolute {
-                Clock::Absolute
-            } else {
-                Clock::Floating
-            }
-        }
+        ) => stamp.clock(),
         _ => Clock::Any,
     }
 }

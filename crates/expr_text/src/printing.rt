@@ -5,7 +5,7 @@ ghost use Rattle.expr_tree.specs.Tree.{tree_of, trees_of};
 ghost use Rattle.expr_tree.specs.WellFormed.{IsWellFormed};
 ghost use Rattle.span_core.specs.Bounds.{IsGiven};
 ghost use Rattle.expr_text.specs.Accepted.{AreWellFormed};
-ghost use Rattle.expr_text.specs.Printing.{is_join, is_absolute, bracketed, stamp_text, next_stamp, stamps_text, low_text, high_text, moment_text, is_at_moment, comma_text, print, print_program};
+ghost use Rattle.expr_text.specs.Printing.{is_join, bracketed, stamp_text, next_stamp, stamps_text, low_text, high_text, moment_text, is_at_moment, comma_text, print, print_program};
 
 use expr_tree::{Expr, Program, Stamps};
 use moment_core::{Clock, Moment, Stamp};
@@ -56,7 +56,7 @@ fn put_moment(out: &mut Vec<u8>, moment: Moment, clock: Clock) -> Result<(), All
 {
     let stamp = Stamp {
         moment,
-        absolute: clock == Clock::Absolute,
+        absolute: clock.is_absolute(),
     };
     put_stamp(out, stamp)
 }

@@ -1,11 +1,10 @@
-ghost use Rattle.std.specs.Prelude.{◌≡◌, IfOk, is_none};
+ghost use Rattle.std.specs.Prelude.{◌≡◌, IfOk};
 ghost use Rattle.std.specs.List.{AllByRecursion};
 ghost use Rattle.expr_grammar.specs.Syntax.{all_places_of, form_of, forms_of, span_places};
 ghost use Rattle.expr_text.specs.Accepted.{AreWellFormed, HasForms, IsAnswer};
 ghost use Rattle.expr_text.specs.Phases.{AllHaveSpans, GivesProgram, GivesSorted, IsInRange, IsOutcome};
 ghost use Rattle.expr_text.specs.Faults.{HasSpans};
 ghost use Rattle.expr_tokens.specs.Plain.{plains};
-ghost use Rattle.expr_tree.specs.Sorts.{one_clock};
 ghost use Rattle.expr_tree.specs.Tree.{trees_of};
 
 use crate::building::{expr, nodes};
@@ -36,13 +35,6 @@ fn sorted(alloc: Global, tree: &SyntaxTree, book: &Book) -> Result<(Expr, Clock)
     }
 }
 
-/// Whether both clocks are decided and differ.
-fn clocks_differ(a: Clock, b: Clock) -> bool
-    ensures { result ≡ is_none (one_clock a b) }
-{
-    a != Clock::Any && b != Clock::Any && a != b
-}
-
 /// The program of syntax trees whose moments have no fault.
 fn program(alloc: Global, trees: &SyntaxTrees, book: &Book) -> Result<Program, TextFault>
     requires { AllHaveSpans (forms_of trees.now) }
@@ -56,7 +48,7 @@ fn program(alloc: Global, trees: &SyntaxTrees, book: &Book) -> Result<Program, T
         });
     };
     let (second, other) = sorted(alloc, second, book)?;
-    if clocks_differ(clock, other) {
+    if clock.common(other).is_none() {
         return Err(TextFault::Sort(SortFault::Clock));
     }
     Ok(Program {

@@ -1,18 +1,18 @@
--- What the kind of a set says of its members, and clocks.
+-- What the kind of a set says of its members, and clocks of moments.
 use Rattle.std.proofs.Common.{◌≡◌, refl, ap, sym, ◌∙◌, arith, ℕ, ◌<◌, suc, ℤ, pos, ◌+ℤ◌, Bool, true, false, not, ◌&&◌, ◌||◌, List, [], ◌∷◌, length, get_or, drop, Option, Some, None, Result, Ok, Err, if◌then◌else◌, nat_lt}
 use Rattle.std.proofs.Math.Seq.{drop-cons}
 use Rattle.std.proofs.lemmas.Bool.{and_left, and_right, or_from}
 use Rattle.std.proofs.lemmas.Int.{ints}
 use Rattle.std.specs.Ordering.{int_eq}
 use Rattle.std.specs.Prelude.{int_lt}
+use Rattle.moment_core.specs.Clocks.{clock_of_stamp, one_clock}
 use Rattle.moment_core.specs.Line.{position_of}
 use Rattle.moment_core.specs.declared.line.Clock.{Clock}
-use Rattle.moment_core.specs.declared.line.Clock.TheVariants.{Any, Floating, Absolute}
 use Rattle.moment_core.specs.declared.line.Stamp.{Stamp}
 use Rattle.moment_core.specs.declared.line.TheConstants.{REACH}
 use Rattle.span_core.specs.Bounds.{lies_between}
 use Rattle.expr_tree.specs.Members.{is_listed, is_member}
-use Rattle.expr_tree.specs.Sorts.{both_kind, clock_of_stamp, clock_of_stamps, clock_with, depth_of, either_kind, invert_judged, join_judged, judge, node_limit, nodes_of, one_clock, path_limit, reach_of, sort_of_tree, sort_with, with_clock}
+use Rattle.expr_tree.specs.Sorts.{both_kind, clock_of_stamps, clock_with, depth_of, either_kind, invert_judged, join_judged, judge, node_limit, nodes_of, path_limit, reach_of, sort_of_tree, sort_with, with_clock}
 use Rattle.expr_tree.specs.Tree.{Tree, Empty, Listed, Spanned, Union, Meet, Minus, Not}
 use Rattle.expr_tree.specs.declared.sorting.Judged.{Judged}
 use Rattle.expr_tree.specs.declared.sorting.Sort.{Sort}
@@ -20,17 +20,6 @@ use Rattle.expr_tree.specs.declared.sorting.SortFault.{SortFault}
 use Rattle.expr_tree.specs.declared.sorting.SortFault.TheVariants as faults
 use Rattle.expr_tree.specs.declared.tree.Kind.{Kind}
 use Rattle.expr_tree.specs.declared.tree.Kind.TheVariants.{Moments, Spans}
-
-pub one_clock-swap : (a b : Clock) → one_clock a b ≡ one_clock b a
-one_clock-swap Any Any = refl
-one_clock-swap Any Floating = refl
-one_clock-swap Any Absolute = refl
-one_clock-swap Floating Any = refl
-one_clock-swap Floating Floating = refl
-one_clock-swap Floating Absolute = refl
-one_clock-swap Absolute Any = refl
-one_clock-swap Absolute Floating = refl
-one_clock-swap Absolute Absolute = refl
 
 -- once two clocks differ, no further moment mends it
 clock_with-none : (stamps : List Stamp) → clock_with None stamps ≡ None

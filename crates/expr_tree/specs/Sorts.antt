@@ -1,7 +1,8 @@
 -- The kind, the clock and the size of a tree, and the first fault that keeps it from having them.
 use Rattle.std.specs.Prelude.{ℕ, ◌+◌, max, nat_lt, List, [], ◌∷◌, Option, Some, None, Result, Ok, Err, if◌then◌else◌, pos, int_lt}
+use Rattle.moment_core.specs.Clocks.{clock_of_stamp, one_clock}
 use Rattle.moment_core.specs.declared.line.Clock.{Clock}
-use Rattle.moment_core.specs.declared.line.Clock.TheVariants.{Any, Floating, Absolute}
+use Rattle.moment_core.specs.declared.line.Clock.TheVariants.{Any}
 use Rattle.moment_core.specs.declared.line.Stamp.{Stamp}
 use Rattle.moment_core.specs.declared.line.TheConstants.{REACH}
 use Rattle.expr_tree.specs.Tree.{Tree, Empty, Listed, Spanned, Union, Meet, Minus, Not}
@@ -40,17 +41,6 @@ reach_of (Union a b) = max (reach_of a) (reach_of b)
 reach_of (Meet a b) = max (reach_of a) (reach_of b)
 reach_of (Minus a b) = max (reach_of a) (reach_of b)
 reach_of (Not a) = reach_of a
-
--- the one clock of both, any giving way; none where two decided clocks differ
-abbrev pub one_clock : Clock → Clock → Option Clock
-one_clock Any b = Some b
-one_clock a Any = Some a
-one_clock Floating Floating = Some Floating
-one_clock Absolute Absolute = Some Absolute
-one_clock a b = None
-
-abbrev pub clock_of_stamp : Stamp → Clock
-clock_of_stamp stamp = if stamp.absolute then Absolute else Floating
 
 -- the one clock of both, if there is one of the first
 abbrev pub one_clock_if : Option Clock → Clock → Option Clock

@@ -1,5 +1,5 @@
 ghost use Rattle.std.specs.Prelude.{◌≡◌, ◌<◌, ◌≤◌, ◌^◌, Some, None, nat_le, pos, if◌then◌else◌};
-ghost use Rattle.expr_tree.specs.Sorts.{both_kind, clock_of_stamp, clock_of_stamps, depth_of, either_kind, judge, nodes_of, one_clock, reach_of, sort_of_tree, with_clock};
+ghost use Rattle.expr_tree.specs.Sorts.{both_kind, clock_of_stamps, depth_of, either_kind, judge, nodes_of, reach_of, sort_of_tree, with_clock};
 ghost use Rattle.expr_tree.specs.Tree.{tree_of};
 
 use crate::tree::{Expr, Kind};
@@ -131,18 +131,18 @@ fn judge_tree(e: &Expr) -> Result<Judged, SortFault>
             clock: Clock::Any,
         }),
         Expr::List(stamps) => with_clock(Kind::Moments, clock_of_stamps(stamps.items())),
-        Expr::Span(_, low, high) => with_clock(Kind::Spans, one_clock(*low, *high)),
+        Expr::Span(_, low, high) => with_clock(Kind::Spans, low.common(*high)),
         Expr::Union(a, b) => {
             let (a, b) = (judge_tree(a)?, judge_tree(b)?);
-            with_clock(either_kind(a.kind, b.kind), one_clock(a.clock, b.clock))
+            with_clock(either_kind(a.kind, b.kind), a.clock.common(b.clock))
         }
         Expr::Meet(a, b) => {
             let (a, b) = (judge_tree(a)?, judge_tree(b)?);
-            with_clock(both_kind(a.kind, b.kind), one_clock(a.clock, b.clock))
+            with_clock(both_kind(a.kind, b.kind), a.clock.common(b.clock))
         }
         Expr::Minus(a, b) => {
             let (a, b) = (judge_tree(a)?, judge_tree(b)?);
-            with_clock(a.kind, one_clock(a.clock, b.clock))
+            with_clock(a.kind, a.clock.common(b.clock))
         }
         Expr::Not(a) => Ok(Judged {
             kind: Kind::Spans,
@@ -160,35 +160,13 @@ fn with_clock(kind: Kind, clock: Option<Clock>) -> Result<Judged, SortFault>
     }
 }
 
-/// The one clock of both, any giving way, or None where two decided clocks differ.
-fn one_clock(a: Clock, b: Clock) -> Option<Clock>
-    ensures { result ≡ one_clock a b }
-{
-    match (a, b) {
-        (Clock::Any, other) | (other, Clock::Any) => Some(other),
-        (Clock::Floating, Clock::Floating) => Some(Clock::Floating),
-        (Clock::Absolute, Clock::Absolute) => Some(Clock::Absolute),
-        _ => None,
-    }
-}
-
-fn clock_of(stamp: Stamp) -> Clock
-    ensures { result ≡ clock_of_stamp stamp }
-{
-    if stamp.absolute {
-        Clock::Absolute
-    } else {
-        Clock::Floating
-    }
-}
-
 /// The one clock of the moments, any where there are none.
 fn clock_of_stamps(stamps: &[Stamp]) -> Option<Clock>
     ensures { result ≡ clock_of_stamps stamps.now }
 {
     let mut clock = Clock::Any;
     for stamp in stamps {
-        clock = one_clock(clock, clock_of(*stamp))?;
+        clock = clock.common(stamp.clock())?;
     }
     Some(clock)
 }

@@ -1,5 +1,6 @@
 pub mod Calendar
 pub mod CalendarLaws
+pub mod Clocks
 pub mod Counter
 pub mod Line
 pub mod Sets

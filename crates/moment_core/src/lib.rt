@@ -5,6 +5,7 @@
 #![tactic(auto)]
 
 mod calendar;
+mod clocks;
 mod counter;
 mod line;
 mod week;

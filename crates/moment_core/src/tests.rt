@@ -43,6 +43,23 @@ fn a_weekday_is_one_of_seven(rt: HostRuntime) {
     }
 }
 
+#[test]
+fn any_clock_gives_way_and_two_decided_ones_must_agree(rt: HostRuntime) {
+    let clocks = [Clock::Any, Clock::Floating, Clock::Absolute];
+    for clock in clocks {
+        assert_eq!(rt; clock.common(clock), Some(clock));
+        assert_eq!(rt; clock.common(Clock::Any), Some(clock));
+        assert_eq!(rt; Clock::Any.common(clock), Some(clock));
+        assert_eq!(rt; clock.is_absolute(), clock == Clock::Absolute);
+    }
+    assert_eq!(rt; Clock::Floating.common(Clock::Absolute), None);
+    assert_eq!(rt; Clock::Absolute.common(Clock::Floating), None);
+    for (absolute, clock) in [(false, Clock::Floating), (true, Clock::Absolute)] {
+        let moment = Moment(0);
+        assert_eq!(rt; Stamp { moment, absolute }.clock(), clock);
+    }
+}
+
 fn drop_after_two_steps<L: Ledger>(steps: Steps<L>)
     requires { steps ≡ 2 }
 {

@@ -21,7 +21,7 @@ use Rattle.span_core.proofs.Searches.{ahead-ahead, change_or_none, one_answer, o
 use Rattle.near_search.specs.Neighbours.{EndsBy, IsFoundPastRun, IsNextPast, IsNextPastOrStop, IsPastRun, IsPlaceWithin, IsRunFrom, IsRunOrStop, IsStopWithin}
 
 -- what lies n steps past p, seen from p and from there
-seen-on : (set : ℤ → Bool) (dir : Dir) (p x : ℤ) (n j : ℕ) → x ≡ ahead dir p n → seen set dir x j ≡ seen set dir p (n + j)
+pub seen-on : (set : ℤ → Bool) (dir : Dir) (p x : ℤ) (n j : ℕ) → x ≡ ahead dir p n → seen set dir x j ≡ seen set dir p (n + j)
 seen-on set dir p x n j e = ap (λ z. set (ahead dir z j)) e ∙ ap set (ahead-ahead dir p n j)
 
 in_range-on : (dir : Dir) (p x : ℤ) (n j k : ℕ) → x ≡ ahead dir p n → k ≡ n + j → IsCalendarPosition (ahead dir p k) → IsCalendarPosition (ahead dir x j)
@@ -33,7 +33,7 @@ in_range-before : (dir : Dir) (p : ℤ) (k : ℕ) → IsCalendarPosition p → I
 in_range-before Fore p k here near = (omega (arith, ints), omega (arith, ints))
 in_range-before Back p k here near = (omega (arith, ints), omega (arith, ints))
 
-true-false : (b : Bool) → b ≡ true → b ≡ false → ⊥
+pub true-false : (b : Bool) → b ≡ true → b ≡ false → ⊥
 true-false b t f = let e : true ≡ false = sym t ∙ f in absurd cc
 
 -- where the first position is no member, a run begins at the first one that differs
@@ -60,7 +60,7 @@ pub gap_at_change : (set : ℤ → Bool) (dir : Dir) (p x : ℤ) → set p ≡ t
 gap_at_change set dir p x e c = ap set c.1 ∙ c.2.differs ∙ ap not (seen-zero set dir p ∙ e)
 
 -- up to that change all are members
-members_before : (set : ℤ → Bool) (dir : Dir) (p x : ℤ) → set p ≡ true → (c : IsNextChange set dir p x) → (k : ℕ) → k < c.0 → seen set dir p k ≡ true
+pub members_before : (set : ℤ → Bool) (dir : Dir) (p x : ℤ) → set p ≡ true → (c : IsNextChange set dir p x) → (k : ℕ) → k < c.0 → seen set dir p k ≡ true
 members_before set dir p x e c k h = c.2.same k h ∙ seen-zero set dir p ∙ e
 
 -- so the runs that begin past it are those past the change

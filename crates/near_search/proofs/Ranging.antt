@@ -8,8 +8,8 @@ use Rattle.moment_core.specs.declared.line.Dir.{Dir}
 use Rattle.moment_core.specs.declared.line.Dir.TheVariants.{Fore, Back}
 use Rattle.moment_core.specs.declared.line.TheConstants.{LOW, HIGH}
 use Rattle.moment_core.specs.declared.line.Window.{Window}
-use Rattle.span_core.specs.Answers.{IsFound, StopsAt, end_of}
-use Rattle.span_core.specs.Bounds.{high_bound, is_moment, low_bound}
+use Rattle.span_core.specs.Answers.{IsCalendarNear, IsCalendarWindow, IsFound, StopsAt, end_of}
+use Rattle.span_core.specs.Bounds.{IsCalendarBound, high_bound, is_moment, low_bound}
 use Rattle.span_core.specs.declared.answers.Answer.{Answer}
 use Rattle.span_core.specs.declared.answers.Answer.TheVariants as answers
 use Rattle.span_core.specs.declared.answers.Near.{Near}
@@ -26,7 +26,7 @@ use Rattle.expr_tree.specs.Members.{is_member}
 use Rattle.expr_tree.specs.Tree.{Tree}
 use Rattle.cert_audit.specs.Candidates.{candidates}
 use Rattle.cert_audit.proofs.Counting.{candidates-onwards}
-use Rattle.near_search.specs.Neighbours.{EndsBy, IsAmpleForNext, IsAnswered, IsCalendarBound, IsCalendarNear, IsCalendarWindow, IsNextOrStop, IsNextPastOrStop, IsPlaceWithin}
+use Rattle.near_search.specs.Neighbours.{EndsBy, IsAmpleForNext, IsAnswered, IsNextOrStop, IsNextPastOrStop, IsPlaceWithin}
 
 -- the moment at or before a position of the range
 moment_in_range : (q : ℤ) → IsCalendarPosition q → IsCalendarMoment (moment_of q)

@@ -1,8 +1,8 @@
 -- The run of any set of positions that is next after a moment. `window` gives for each position the window after which the set
 -- repeats upwards from there, if there is one in the range, and `candidates` counts what a search passes between two positions.
-use Rattle.std.specs.Prelude.{◌≡◌, ◌<◌, ◌⊎◌, ℕ, zero, suc, ℤ, pos, ◌-ℤ◌, Bool, true, Option}
-use Rattle.moment_core.specs.Line.{IsCalendarMoment, IsCalendarPosition, moment_of, position_of}
-use Rattle.moment_core.specs.Sets.{ahead, IsNextBeginning, IsNextChange, NoneBegins, StaysInRange}
+use Rattle.std.specs.Prelude.{◌≡◌, ◌<◌, ◌+◌, ◌⊎◌, ℕ, zero, suc, ℤ, pos, ◌-ℤ◌, Bool, true, Option}
+use Rattle.moment_core.specs.Line.{IsCalendarPosition, position_of}
+use Rattle.moment_core.specs.Sets.{ahead, seen, IsNextBeginning, IsNextChange, NoneBegins, StaysInRange}
 use Rattle.moment_core.specs.declared.line.Dir.{Dir}
 use Rattle.moment_core.specs.declared.line.Dir.TheVariants.{Fore}
 use Rattle.moment_core.specs.declared.line.Window.{Window}
@@ -100,21 +100,11 @@ IsAnswered (nears.None w) = Unit {0}
 IsAnswered nears.Edge = Unit {0}
 IsAnswered (nears.Budget s) = ⊥
 
--- each moment of the bounds, and each moment at or before an end of the window, is of the calendar range
-abbrev pub IsCalendarBound : Bound → Type 0
-IsCalendarBound (bounds.Closed t) = IsCalendarMoment t.0
-IsCalendarBound (bounds.Open t) = IsCalendarMoment t.0
-IsCalendarBound bounds.Inf = Unit {0}
-IsCalendarBound bounds.Edge = Unit {0}
-
-abbrev pub IsCalendarRun : Run → Type 0
-IsCalendarRun run = IsCalendarBound run.first × IsCalendarBound run.last
-
-abbrev pub IsCalendarWindow : Window → Type 0
-IsCalendarWindow w = IsCalendarMoment (moment_of w.lo.0) × IsCalendarMoment (moment_of w.hi.0)
-
-abbrev pub IsCalendarNear : Near → Type 0
-IsCalendarNear (nears.Found run) = IsCalendarRun run
-IsCalendarNear (nears.None w) = IsCalendarWindow w
-IsCalendarNear nears.Edge = Unit {0}
-IsCalendarNear (nears.Budget s) = Unit {0}
+-- What an answer says of all whole numbers, past the calendar range too: where none begins and the set repeats, none ever
+-- begins; and a run that ends at no bound goes on for ever.
+abbrev pub IsForEver : (ℤ → Bool) → ℤ → Near → Type 0
+IsForEver set p (nears.Found run) =
+    run.last ≡ bounds.Inf → (q : ℤ) × IsNextBeginning set Fore p q × ((k : ℕ) → seen set Fore q k ≡ true)
+IsForEver set p (nears.None w) = (k : ℕ) → seen set Fore p (k + 1) ≡ true → seen set Fore p k ≡ true
+IsForEver set p nears.Edge = Unit {0}
+IsForEver set p (nears.Budget s) = Unit {0}

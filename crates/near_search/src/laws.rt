@@ -1,4 +1,4 @@
-ghost use Rattle.moment_core.specs.Line.{IsCalendarMoment};
+ghost use Rattle.moment_core.specs.Line.{IsCalendarMoment, position_of};
 ghost use Rattle.moment_core.specs.declared.line.Dir.TheVariants.{Fore};
 ghost use Rattle.moment_core.specs.declared.line.Window.{Window};
 ghost use Rattle.span_core.specs.declared.answers.Near.{Near};
@@ -7,9 +7,10 @@ ghost use Rattle.frame_core.specs.declared.frames.Frame.{Frame};
 ghost use Rattle.expr_tree.specs.Members.{is_member};
 ghost use Rattle.expr_tree.specs.Tree.{Tree};
 ghost use Rattle.cert_audit.specs.Candidates.{candidates};
+ghost use Rattle.cert_audit.specs.TreeFrames.{frame_of_tree};
 ghost use Rattle.moment_core.specs.declared.line.TheConstants.{HIGH, LOW, REACH};
 ghost use Rattle.near_search.specs.Ample.{IsAmple, IsBusiest, IsWorkingPosition, days_of_working_range};
-ghost use Rattle.near_search.specs.Neighbours.{IsAmpleForNext, IsNext};
+ghost use Rattle.near_search.specs.Neighbours.{IsAmpleForNext, IsForEver, IsNext};
 ghost use Rattle.std.specs.Prelude.{◌≡◌, ◌*◌, ◌<◌, ℕ, ℤ, pos, ◌+ℤ◌, ◌-ℤ◌, Bool, Option};
 
 /// After each moment of the calendar range there is a next run, or an answer that none begins, and no second one.
@@ -18,6 +19,13 @@ pub fn next_laws()
         IsCalendarMoment at → (near : Near) × IsNext set window at near }
     ensures one { (set : ℤ → Bool) (window : ℤ → Option Window) (at : ℤ) (a b : Near) →
         IsNext set window at a → IsNext set window at b → a ≡ b }
+{}
+
+/// What the next run of a tree says of all whole numbers: where none begins by the tree's frame, none ever begins, and a run
+/// without a last bound never ends.
+pub fn endless_laws()
+    ensures { (tree : Tree) (at : ℤ) (near : Near) → IsCalendarMoment at →
+        IsNext (is_member tree) (window_if_framed (frame_of_tree tree) Fore) at near → IsForEver (is_member tree) (position_of at) near }
 {}
 
 /// Each tree has a greatest number of candidates that one leaf has on one day, and no second one. The working range has

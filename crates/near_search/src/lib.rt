@@ -6,5 +6,5 @@ mod neighbours;
 #[cfg(test)]
 mod tests;
 
-pub use laws::{budget_laws, next_laws};
+pub use laws::{budget_laws, endless_laws, next_laws};
 pub use neighbours::next;

@@ -1,10 +1,11 @@
 ghost use Rattle.std.specs.Prelude.{◌≡◌, ◌≤◌, true, false};
-ghost use Rattle.moment_core.specs.Line.{IsCalendarMoment, IsCalendarPosition};
+ghost use Rattle.moment_core.specs.Line.{IsCalendarMoment, IsCalendarPosition, position_of};
 ghost use Rattle.moment_core.specs.declared.line.Dir.TheVariants.{Fore};
+ghost use Rattle.span_core.specs.Answers.{IsCalendarNear};
 ghost use Rattle.span_core.specs.Bounds.{low_bound};
 ghost use Rattle.frame_core.specs.Frames.{window_if_framed};
 ghost use Rattle.cert_audit.specs.Lowered.{candidates_of, frame_of_ready, members_of};
-ghost use Rattle.near_search.specs.Neighbours.{IsAmpleForNext, IsAnswered, IsCalendarNear, IsNextOrStop, IsNextPastOrStop, IsRunOrStop};
+ghost use Rattle.near_search.specs.Neighbours.{IsAmpleForNext, IsAnswered, IsForEver, IsNextOrStop, IsNextPastOrStop, IsRunOrStop};
 
 use cert_audit::{Ready, sweep};
 use moment_core::{Dir, Moment, Pos, Steps, of};
@@ -14,7 +15,7 @@ use std::sync::ledger::Ledger;
 /// The first run that begins after the moment, by searches of the set forwards, each with the budget.
 ///
 /// Where none begins up to the end of the calendar range, `None` gives the window after which the set repeats, in which nothing
-/// differs, and `Edge` says nothing of what lies past the range. `Budget` comes only where one of the searches stops: from the
+/// differs, so that none ever begins, and `Edge` says nothing of what lies past the range. A run without a last bound never ends. `Budget` comes only where one of the searches stops: from the
 /// moment, from the end of its run, or from the beginning of the next one.
 pub fn next<L: Ledger>(r: &Ready, at: Moment, budget: u64, steps: &mut Steps<L>) -> Near
     requires range { IsCalendarMoment at.0 }
@@ -22,6 +23,7 @@ pub fn next<L: Ledger>(r: &Ready, at: Moment, budget: u64, steps: &mut Steps<L>)
     ensures answer { IsNextOrStop (members_of r.now) (window_if_framed (frame_of_ready r.now) Fore) (candidates_of r.now) at.0 budget result }
     ensures complete { IsAmpleForNext (members_of r.now) (window_if_framed (frame_of_ready r.now) Fore) (candidates_of r.now) at.0 budget →
         IsAnswered result }
+    ensures for_ever { IsForEver (members_of r.now) (position_of at.0) result }
     ensures in_range { IsCalendarNear result }
     ensures counted { steps.old ≤ steps.new }
 {

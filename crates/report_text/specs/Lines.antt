@@ -1,11 +1,11 @@
 -- Lines of output: the bytes of moments, runs, windows and stops, and of the lines that they stand in.
-use Rattle.std.specs.Prelude.{ℕ, ℤ, Bool, true, false, List, ◌++◌, codes, decimal, Option, Some, None, if◌then◌else◌}
+use Rattle.std.specs.Prelude.{ℕ, ℤ, List, ◌++◌, codes, decimal, Option, Some, None, if◌then◌else◌}
 use Rattle.std.specs.Fmt.{signed_decimal}
 use Rattle.std.specs.Option.{option_map_or}
 use Rattle.std.specs.Ordering.{int_eq}
-use Rattle.moment_core.specs.Line.{IsCalendarMoment, moment_of}
+use Rattle.moment_core.specs.Clocks.{is_absolute}
+use Rattle.moment_core.specs.Line.{moment_of}
 use Rattle.moment_core.specs.declared.line.Clock.{Clock}
-use Rattle.moment_core.specs.declared.line.Clock.TheVariants.{Any, Floating, Absolute}
 use Rattle.moment_core.specs.declared.line.Moment.{Moment}
 use Rattle.moment_core.specs.declared.line.TheConstants.{LOW, HIGH}
 use Rattle.moment_core.specs.declared.line.Window.{Window}
@@ -18,11 +18,6 @@ use Rattle.span_core.specs.declared.bounds.Bound.TheVariants.{Closed, Open, Inf,
 use Rattle.span_core.specs.declared.bounds.Run.{Run}
 use Rattle.expr_tree.specs.declared.tree.Kind.{Kind}
 use Rattle.expr_tree.specs.declared.tree.Kind.TheVariants.{Moments, Spans}
-
-abbrev pub is_absolute : Clock → Bool
-is_absolute Any = false
-is_absolute Floating = false
-is_absolute Absolute = true
 
 -- a moment is its literal, with a Z on the absolute clock
 abbrev pub moment_text : Clock → ℤ → List ℕ
@@ -91,22 +86,3 @@ near_text (Budget s) kind clock = codes "budget " ++ stop_text s
 -- The line of a neighbour.
 abbrev pub near_line : Near → Kind → Clock → List ℕ
 near_line near kind clock = near_text near kind clock ++ codes "\n"
-
--- what is written as a moment is one of the calendar range
-abbrev pub IsCalendarBound : Bound → Type 0
-IsCalendarBound (Closed t) = IsCalendarMoment t.0
-IsCalendarBound (Open t) = IsCalendarMoment t.0
-IsCalendarBound Inf = Unit {0}
-IsCalendarBound Edge = Unit {0}
-
-abbrev pub IsCalendarRun : Run → Type 0
-IsCalendarRun run = IsCalendarBound run.first × IsCalendarBound run.last
-
-abbrev pub IsCalendarWindow : Window → Type 0
-IsCalendarWindow w = IsCalendarMoment (moment_of w.lo.0) × IsCalendarMoment (moment_of w.hi.0)
-
-abbrev pub IsCalendarNear : Near → Type 0
-IsCalendarNear (Found run) = IsCalendarRun run
-IsCalendarNear (Never w) = IsCalendarWindow w
-IsCalendarNear Unsaid = Unit {0}
-IsCalendarNear (Budget s) = Unit {0}

@@ -1,5 +1,6 @@
 ghost use Rattle.std.specs.Prelude.{◌≡◌, ◌+◌, ◌≤◌, ◌++◌, length};
-ghost use Rattle.report_text.specs.Lines.{near_line, near_text, IsCalendarNear};
+ghost use Rattle.span_core.specs.Answers.{IsCalendarNear};
+ghost use Rattle.report_text.specs.Lines.{near_line, near_text};
 
 use crate::lines::Line;
 use crate::pieces::{put_run, put_stop, put_window};

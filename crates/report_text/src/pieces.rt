@@ -2,7 +2,9 @@
 
 ghost use Rattle.std.specs.Prelude.{◌≡◌, ◌+◌, ◌≤◌, ◌++◌, length};
 ghost use Rattle.moment_core.specs.Line.{IsCalendarMoment};
-ghost use Rattle.report_text.specs.Lines.{first_moment, high_text, last_moment, low_text, moment_text, only_moment, run_text, span_text, stop_text, window_text, IsCalendarBound, IsCalendarRun, IsCalendarWindow};
+ghost use Rattle.span_core.specs.Answers.{IsCalendarWindow};
+ghost use Rattle.span_core.specs.Bounds.{IsCalendarBound, IsCalendarRun};
+ghost use Rattle.report_text.specs.Lines.{first_moment, high_text, last_moment, low_text, moment_text, only_moment, run_text, span_text, stop_text, window_text};
 
 use crate::lines::Line;
 use expr_tree::Kind;
@@ -17,7 +19,7 @@ fn put_moment(line: &mut Line, moment: Moment, clock: Clock)
     ensures bytes { line.new ≡ line.old ++ moment_text clock moment.0 }
     ensures len { length line.new ≤ length line.old + 21 }
 {
-    let absolute = matches!(clock, Clock::Absolute);
+    let absolute = clock.is_absolute();
     let literal = write_literal(Stamp { moment, absolute });
     line.put(literal.as_slice());
 }

@@ -1,5 +1,6 @@
 ghost use Rattle.std.specs.Prelude.{◌≡◌, true};
-ghost use Rattle.report_text.specs.Lines.{IsCalendarBound, IsCalendarNear};
+ghost use Rattle.span_core.specs.Answers.{IsCalendarNear};
+ghost use Rattle.span_core.specs.Bounds.{IsCalendarBound};
 
 use crate::line_near;
 use expr_tree::Kind;

@@ -7,7 +7,8 @@ use Rattle.expr_tree.specs.Sorts.{sort_of_tree}
 use Rattle.expr_tree.specs.Tree.{Tree, Trees, tree_of}
 use Rattle.expr_tree.specs.declared.tree.Expr.{Expr}
 use Rattle.moment_core.specs.declared.line.Stamp.{Stamp}
-use Rattle.near_search.specs.Neighbours.{IsAnswered, IsNextOrStop}
+use Rattle.moment_core.specs.Line.{position_of}
+use Rattle.near_search.specs.Neighbours.{IsAnswered, IsForEver, IsNextOrStop}
 use Rattle.span_core.specs.declared.answers.Near.{Near}
 use Rattle.span_core.specs.declared.answers.Near.TheVariants as nears
 use Rattle.expr_tree.specs.declared.sorting.Sort.{Sort}
@@ -35,11 +36,11 @@ pub sort_of_first : (trees : Trees) → sort_fault trees ≡ None → (sort : So
 sort_of_first trees e = first_sorted (sort_of_tree trees.first) _ e
 
 -- what a search gives is its outcome
-pub searched_by : (at : Stamp) (budget : ℕ) (t : Tree) (sort : Sort) (near : Near) → IsNextOrStop (is_member t) (window_of t) (candidates t) at.moment.0 budget near → (IsAmpleOf t at.moment.0 budget → IsAnswered near) → IsSearched at budget t sort (told at sort near)
-searched_by at budget t sort (nears.Found run) is ample = next (nears.Found run) is
-searched_by at budget t sort (nears.None w) is ample = next (nears.None w) is
-searched_by at budget t sort nears.Edge is ample = next nears.Edge is
-searched_by at budget t sort (nears.Budget s) is ample = stopped s is ample
+pub searched_by : (at : Stamp) (budget : ℕ) (t : Tree) (sort : Sort) (near : Near) → IsNextOrStop (is_member t) (window_of t) (candidates t) at.moment.0 budget near → IsForEver (is_member t) (position_of at.moment.0) near → (IsAmpleOf t at.moment.0 budget → IsAnswered near) → IsSearched at budget t sort (told at sort near)
+searched_by at budget t sort (nears.Found run) is for_ever ample = next (nears.Found run) (is, for_ever)
+searched_by at budget t sort (nears.None w) is for_ever ample = next (nears.None w) (is, for_ever)
+searched_by at budget t sort nears.Edge is for_ever ample = next nears.Edge (is, for_ever)
+searched_by at budget t sort (nears.Budget s) is for_ever ample = stopped s is ample
 
 pub written_as : {before after : Option (List ℕ)} {old new result : ℕ} (o : Outcome) (status : ℕ) (line : List ℕ) → status ≡ o.status → line ≡ o.bytes → IsWritten before after old new (record { status = status; bytes = line }) result → IsWritten before after old new o result
 written_as {before} {after} {old} {new} {result} o status line same is w =

@@ -22,6 +22,7 @@ use Rattle.moment_core.specs.Line.{IsCalendarMoment, IsCalendarPosition, moment_
 use Rattle.moment_core.specs.Sets.{BeginsFirst, IsNextBeginning, NoneBegins, moments_in, seen}
 use Rattle.moment_core.proofs.FloorLemmas.{floor_arith}
 use Rattle.moment_text.specs.Literal.{literal_of}
+use Rattle.near_search.proofs.Endless.{next_for_ever}
 use Rattle.near_search.proofs.Nearing.{one_next, some_next}
 use Rattle.query_words.specs.Laws.{AnswersAreUnique, AnswersExist}
 use Rattle.query_words.specs.Words.{Asks, IsAnswer as IsAnswerOf}
@@ -74,7 +75,7 @@ one_searched : {at : Stamp} {budget : ℕ} {t : Tree} {sort : Sort} (a b : Outco
 one_searched a b (stopped s is not) k d e = absurd (d refl)
 one_searched a b (next near is) (stopped s also not) d e = absurd (e refl)
 one_searched {at} {budget} {t} {sort} a b (next near is) (next other also) d e =
-    ap (told at sort) (one_next (is_member t) (window_of t) (position_of at.moment.0) near other is also)
+    ap (told at sort) (one_next (is_member t) (window_of t) (position_of at.moment.0) near other is.0 also.0)
 
 one_sort : (trees : Trees) (a b : Sort) → IsAlone trees a → IsAlone trees b → a ≡ b
 one_sort trees a b h k = let x = h.sorted in let y = k.sorted in cc
@@ -254,7 +255,8 @@ over_trees at budget trees range sorted = by_second trees.second refl
     by_clock sort alone false e =
         let p : IsCalendarPosition (position_of at.moment.0) = (omega (arith, floor_arith, range.0), omega (arith, floor_arith, range.1)) in
         let near = some_next (is_member trees.first) (window_of trees.first) (position_of at.moment.0) p in
-        (told at sort near.0, searched sort (told at sort near.0) alone e (next near.0 near.1))
+        let for_ever = next_for_ever trees.first (position_of at.moment.0) near.0 p near.1 in
+        (told at sort near.0, searched sort (told at sort near.0) alone e (next near.0 (near.1, for_ever)))
 
     by_second : (second : Option Tree) → trees.second ≡ second → (o : Outcome) × IsNextOver at budget trees o
     by_second (Some second) e = (refused_by (codes "refused two\n"), two second e)

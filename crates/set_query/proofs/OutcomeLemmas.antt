@@ -151,7 +151,7 @@ never_stops : {at : Stamp} {budget : ℕ} {t : Tree} {sort : Sort} {o : Outcome}
 never_stops (next (nears.Found run) is) e ample = absurd (omega (arith, e))
 never_stops (next (nears.None w) is) e ample = absurd (omega (arith, e))
 never_stops (next nears.Edge is) e ample = absurd (omega (arith, e))
-never_stops (next (nears.Budget s) is) e ample = is
+never_stops (next (nears.Budget s) is) e ample = is.0
 never_stops (stopped s is not) e ample = not ample
 
 over_stops : {at : Stamp} {budget : ℕ} {trees : Trees} {o : Outcome} → IsNextOver at budget trees o → o.status ≡ 3 → IsAmpleOf trees.first at.moment.0 budget → ⊥

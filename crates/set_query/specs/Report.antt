@@ -6,11 +6,12 @@ use Rattle.expr_text.specs.Accepted.{IsAnswer}
 use Rattle.expr_text.specs.Printing.{print_program}
 use Rattle.expr_text.specs.declared.fault.TextFault.{TextFault}
 use Rattle.expr_tree.specs.Members.{is_member}
-use Rattle.expr_tree.specs.Sorts.{clock_of_stamp, one_clock, sort_of_tree}
+use Rattle.expr_tree.specs.Sorts.{sort_of_tree}
 use Rattle.expr_tree.specs.Tree.{Tree, Trees, trees_of}
 use Rattle.expr_tree.specs.declared.sorting.Sort.{Sort}
 use Rattle.expr_tree.specs.declared.tree.Program.{Program}
 use Rattle.frame_core.specs.Frames.{window_if_framed}
+use Rattle.moment_core.specs.Clocks.{clock_of_stamp, one_clock}
 use Rattle.moment_core.specs.Line.{IsCalendarMoment, IsCalendarPosition, moment_of, position_of}
 use Rattle.moment_core.specs.Sets.{IsNextBeginning, NoneBegins, moments_in}
 use Rattle.moment_core.specs.declared.line.Dir.TheVariants.{Fore}
@@ -18,7 +19,7 @@ use Rattle.moment_core.specs.declared.line.Stamp.{Stamp}
 use Rattle.moment_core.specs.declared.line.Window.{Window}
 use Rattle.moment_text.specs.Literal.{literal_of}
 use Rattle.near_search.specs.Ample.{IsAmple as IsAmpleByDays}
-use Rattle.near_search.specs.Neighbours.{IsAmpleForNext, IsNext, IsStopWithin}
+use Rattle.near_search.specs.Neighbours.{IsAmpleForNext, IsForEver, IsNext, IsStopWithin}
 use Rattle.query_words.specs.Words.{Asks, IsRefused}
 use Rattle.query_words.specs.declared.queries.Query.{Query}
 use Rattle.query_words.specs.declared.queries.Query.TheVariants.{Next, Show}
@@ -60,9 +61,9 @@ clocks_differ at sort = is_none (one_clock (clock_of_stamp at) sort.clock)
 abbrev pub window_of : Tree → ℤ → Option Window
 window_of t = window_if_framed (frame_of_tree t) Fore
 
--- the next run of a tree after a moment; a stop that is due for a budget; and that the budget is ample
+-- the next run of a tree after a moment, which holds on all whole numbers; a stop that is due for a budget; and that the budget is ample
 abbrev pub IsNextOf : Tree → ℤ → Near → Type 0
-IsNextOf t at near = IsNext (is_member t) (window_of t) at near
+IsNextOf t at near = IsNext (is_member t) (window_of t) at near × IsForEver (is_member t) (position_of at) near
 
 abbrev pub IsStopOf : Tree → ℤ → ℕ → Stop → Type 0
 IsStopOf t at budget s = IsStopWithin (is_member t) (window_of t) (candidates t) 2 (position_of at) budget s

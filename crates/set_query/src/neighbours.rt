@@ -1,9 +1,9 @@
 //! Answering `next`.
 
-ghost use Rattle.std.specs.Prelude.{◌≡◌, ◌⊎◌, ◌≤◌, ◌<◌, ℕ, Ok, None, is_none};
+ghost use Rattle.std.specs.Prelude.{◌≡◌, ◌⊎◌, ◌≤◌, ◌<◌, ℕ, Ok, None};
 ghost use Rattle.expr_text.specs.Accepted.{AreWellFormed};
 ghost use Rattle.expr_text.specs.Faults.{sort_fault};
-ghost use Rattle.expr_tree.specs.Sorts.{clock_of_stamp, sort_of_tree, one_clock};
+ghost use Rattle.expr_tree.specs.Sorts.{sort_of_tree};
 ghost use Rattle.expr_tree.specs.Tree.{tree_of, trees_of};
 ghost use Rattle.expr_tree.specs.WellFormed.{IsWellFormed};
 ghost use Rattle.moment_core.specs.Line.{IsCalendarMoment};
@@ -18,7 +18,7 @@ use crate::writing::{answer, put};
 use cert_audit::Ready;
 use expr_text::read_program;
 use expr_tree::{Expr, Program, Sort, sort_of};
-use moment_core::{Clock, Stamp, Steps};
+use moment_core::{Stamp, Steps};
 use outside_core::Sink;
 use report_text::line_near;
 use span_core::Near;
@@ -26,21 +26,11 @@ use std::alloc::Global;
 use std::sync::ledger::Ledger;
 use stored_pair::Book;
 
-fn clock_of(stamp: Stamp) -> Clock
-    ensures { result ≡ clock_of_stamp stamp }
-{
-    if stamp.absolute {
-        Clock::Absolute
-    } else {
-        Clock::Floating
-    }
-}
-
 /// Whether the set and the moment have clocks that are decided and differ.
 fn clocks_differ(at: Stamp, sort: Sort) -> bool
     ensures { result ≡ clocks_differ at sort }
 {
-    sort.clock != Clock::Any && sort.clock != clock_of(at)
+    at.clock().common(sort.clock).is_none()
 }
 
 fn status_of(near: Near) -> u8
@@ -75,7 +65,7 @@ fn next_run<K: Sink, L: Ledger>(
     match Ready::make(alloc, set, book) {
         Ok(ready) => {
             let near = near_search::next(&ready, at.moment, budget, steps);
-            let line = line_near(near, sort.kind, clock_of(at));
+            let line = line_near(near, sort.kind, at.clock());
             put(sink, line.bytes(), status_of(near))
         }
         Err(_) => 6,

@@ -1,6 +1,6 @@
 -- What a search for the next change answers, over any set of positions.
 use Rattle.std.specs.Prelude.{◌≡◌, ◌<◌, ◌≤◌, ℕ, ℤ, pos, ◌+ℤ◌, ◌-ℤ◌, ◌≤ℤ◌, Bool, Option, Some, None}
-use Rattle.moment_core.specs.Line.{IsCalendarPosition, position_of}
+use Rattle.moment_core.specs.Line.{IsCalendarMoment, IsCalendarPosition, moment_of, position_of}
 use Rattle.moment_core.specs.Sets.{ahead, seen, IsNextChange, StaysInRange}
 use Rattle.moment_core.specs.declared.line.Dir.{Dir}
 use Rattle.moment_core.specs.declared.line.Dir.TheVariants.{Fore, Back}
@@ -8,7 +8,10 @@ use Rattle.moment_core.specs.declared.line.TheConstants.{LOW, HIGH}
 use Rattle.moment_core.specs.declared.line.Window.{Window}
 use Rattle.span_core.specs.declared.answers.Answer.{Answer}
 use Rattle.span_core.specs.declared.answers.Answer.TheVariants.{At, None as Never, Edge, Budget}
+use Rattle.span_core.specs.declared.answers.Near.{Near}
+use Rattle.span_core.specs.declared.answers.Near.TheVariants as nears
 use Rattle.span_core.specs.declared.answers.Stop.{Stop}
+use Rattle.span_core.specs.Bounds.{IsCalendarRun}
 
 -- the answer at p, where `window` is the one after which the set repeats, if there is one in the range:
 -- the nearest position of the range past p that differs; else the window; else the range's end
@@ -54,3 +57,14 @@ IsAnswer set candidates window dir p budget (Budget s) = (n : ℕ) × StopsAt se
 IsAnswer set candidates window dir p budget (At q) = IsFound set window dir p (At q)
 IsAnswer set candidates window dir p budget (Never w) = IsFound set window dir p (Never w)
 IsAnswer set candidates window dir p budget Edge = IsFound set window dir p Edge
+
+-- the moments at or before the ends of a window are of the calendar range
+abbrev pub IsCalendarWindow : Window → Type 0
+IsCalendarWindow w = IsCalendarMoment (moment_of w.lo.0) × IsCalendarMoment (moment_of w.hi.0)
+
+-- so is each moment of a neighbour
+abbrev pub IsCalendarNear : Near → Type 0
+IsCalendarNear (nears.Found run) = IsCalendarRun run
+IsCalendarNear (nears.None w) = IsCalendarWindow w
+IsCalendarNear nears.Edge = Unit {0}
+IsCalendarNear (nears.Budget s) = Unit {0}

@@ -14,6 +14,16 @@ IsGiven (Open t) = IsCalendarMoment t.0
 IsGiven Inf = Unit {0}
 IsGiven Edge = ⊥
 
+-- a moment of the bound is one of the calendar range
+abbrev pub IsCalendarBound : Bound → Type 0
+IsCalendarBound (Closed t) = IsCalendarMoment t.0
+IsCalendarBound (Open t) = IsCalendarMoment t.0
+IsCalendarBound Inf = Unit {0}
+IsCalendarBound Edge = Unit {0}
+
+abbrev pub IsCalendarRun : Run → Type 0
+IsCalendarRun run = IsCalendarBound run.first × IsCalendarBound run.last
+
 -- the position is not below a low bound
 abbrev pub reaches : Bound → ℤ → Bool
 reaches (Closed t) p = int_le (position_of t.0) p

@@ -1,7 +1,9 @@
-ghost use Rattle.std.specs.Prelude.{◌≡◌, ◌≤ℤ◌};
-ghost use Rattle.span_core.specs.Bounds.{high_bound, is_moment, low_bound, run_between};
+ghost use Rattle.std.specs.Prelude.{◌≡◌, ◌≤ℤ◌, IfSome};
+ghost use Rattle.moment_core.specs.Line.{position_of};
+ghost use Rattle.moment_core.specs.declared.line.TheConstants.{HIGH, LOW};
+ghost use Rattle.span_core.specs.Bounds.{IsGiven, first_from, high_bound, is_moment, last_to, low_bound, run_between};
 
-use moment_core::{Moment, Pos, floor};
+use moment_core::{Moment, Pos, floor, of};
 
 /// Where a run or a span begins or ends.
 #[derive(Clone, Copy, Debug, PartialEq, Eq)]
@@ -14,6 +16,34 @@ pub enum Bound {
     Inf,
     /// At the end of the calendar range, past which nothing is said.
     Edge,
+}
+
+impl Bound {
+    /// The first position from this low bound of a span on, if there is one.
+    pub fn first_position(self) -> Option<Pos>
+        requires { IsGiven self }
+        ensures value { result ≡ first_from self }
+        ensures in_range { IfSome result (λ first. position_of LOW ≤ℤ first.0) }
+    {
+        match self {
+            Bound::Closed(t) => Some(of(t)),
+            Bound::Open(t) => Some(Pos(of(t).0 + 1)),
+            Bound::Inf | Bound::Edge => None,
+        }
+    }
+
+    /// The last position up to this high bound of a span, if there is one.
+    pub fn last_position(self) -> Option<Pos>
+        requires { IsGiven self }
+        ensures value { result ≡ last_to self }
+        ensures in_range { IfSome result (λ last. last.0 ≤ℤ position_of HIGH) }
+    {
+        match self {
+            Bound::Closed(t) => Some(of(t)),
+            Bound::Open(t) => Some(Pos(of(t).0 - 1)),
+            Bound::Inf | Bound::Edge => None,
+        }
+    }
 }
 
 /// A maximal stretch of members.

@@ -1,8 +1,8 @@
 ghost use Rattle.std.specs.Prelude.{◌≡◌, ◌↔◌, ℤ, true, false, ◌&&◌, ◌||◌, IfOk, IfSome, IsErr, IsNone, IsTrue};
-ghost use Rattle.span_core.specs.Bounds.{IsGiven, IsOneStretch, IsSpan, ends_after, first_from, last_to, lies_between, reaches};
+ghost use Rattle.span_core.specs.Bounds.{IsGiven, IsOneStretch, IsSpan, ends_after, lies_between, reaches};
 
 use crate::bounds::Bound;
-use moment_core::{Pos, of};
+use moment_core::Pos;
 use std::marker::Model;
 
 /// No position lies between two bounds.
@@ -93,36 +93,12 @@ impl Span {
     }
 }
 
-/// The first position from a low bound on, if there is one.
-fn first_from(low: Bound) -> Option<Pos>
-    requires { IsGiven low }
-    ensures { result ≡ first_from low }
-{
-    match low {
-        Bound::Closed(t) => Some(of(t)),
-        Bound::Open(t) => Some(Pos(of(t).0 + 1)),
-        Bound::Inf | Bound::Edge => None,
-    }
-}
-
-/// The last position up to a high bound, if there is one.
-fn last_to(high: Bound) -> Option<Pos>
-    requires { IsGiven high }
-    ensures { result ≡ last_to high }
-{
-    match high {
-        Bound::Closed(t) => Some(of(t)),
-        Bound::Open(t) => Some(Pos(of(t).0 - 1)),
-        Bound::Inf | Bound::Edge => None,
-    }
-}
-
 /// Whether the position is not below the low bound.
 fn reaches(low: Bound, p: Pos) -> bool
     requires { IsGiven low }
     ensures { result ≡ reaches low p.0 }
 {
-    first_from(low).is_none_or(|first| first <= p)
+    low.first_position().is_none_or(|first| first <= p)
 }
 
 /// Whether the position is not above the high bound.
@@ -130,7 +106,7 @@ fn ends_after(high: Bound, p: Pos) -> bool
     requires { IsGiven high }
     ensures { result ≡ ends_after high p.0 }
 {
-    last_to(high).is_none_or(|last| p <= last)
+    high.last_position().is_none_or(|last| p <= last)
 }
 
 /// Of two low bounds the one that begins later.
@@ -140,7 +116,7 @@ fn later_low(a: Bound, b: Bound) -> Bound
     ensures given { IsGiven result }
     ensures both { (p : ℤ) → reaches result p ≡ (reaches a p && reaches b p) }
 {
-    match (first_from(a), first_from(b)) {
+    match (a.first_position(), b.first_position()) {
         (Some(first), Some(other)) => if first < other { b } else { a },
         (Some(_), None) => a,
         (None, _) => b,
@@ -154,7 +130,7 @@ fn earlier_high(a: Bound, b: Bound) -> Bound
     ensures given { IsGiven result }
     ensures both { (p : ℤ) → ends_after result p ≡ (ends_after a p && ends_after b p) }
 {
-    match (last_to(a), last_to(b)) {
+    match (a.last_position(), b.last_position()) {
         (Some(last), Some(other)) => if last < other { a } else { b },
         (Some(_), None) => a,
         (None, _) => b,
@@ -168,7 +144,7 @@ fn in_order(low: Bound, high: Bound) -> bool
     ensures some { result ≡ true → IsSpan low high }
     ensures none { result ≡ false → (p : ℤ) → lies_between low high p ≡ false }
 {
-    match (first_from(low), last_to(high)) {
+    match (low.first_position(), high.last_position()) {
         (Some(first), Some(last)) => first <= last,
         _ => true,
     }
@@ -180,7 +156,7 @@ fn are_apart(high: Bound, low: Bound) -> bool
     requires low { IsGiven low }
     ensures { IsTrue result ↔ ((p : ℤ) × (ends_after high p ≡ false) × (reaches low p ≡ false)) }
 {
-    match (last_to(high), first_from(low)) {
+    match (high.last_position(), low.first_position()) {
         (Some(last), Some(first)) => last.0 + 1 < first.0,
         _ => false,
     }

@@ -1,6 +1,6 @@
 use Rattle.std.proofs.Common.{rules, ◌≡◌, inl, subst}
 use Rattle.cert_audit.specs.Lowered.{tree_of_ready}
-use Rattle.expr_tree.specs.Sorts.{clock_of_stamp}
+use Rattle.moment_core.specs.Clocks.{clock_of_stamp}
 use Rattle.expr_tree.specs.Tree.{Tree, tree_of}
 use Rattle.report_text.specs.Lines.{near_line}
 use Rattle.set_query.specs.Report.{IsSearched, told}
@@ -13,6 +13,6 @@ returns-in-Ok-clause-outcome g c =
     let line : c.bytes.result.now ≡ near_line near c.args.sort.kind (clock_of_stamp c.args.at) = search rules in
     inl (record {
       outcome = told c.args.at c.args.sort near;
-      as_asked = subst (λ (t : Tree). IsSearched c.args.at c.args.budget t c.args.sort (told c.args.at c.args.sort near)) c.in-Ok.ensures.tree (searched_by c.args.at c.args.budget (tree_of_ready c.in-Ok.ready) c.args.sort near c.next-near.ensures.answer c.next-near.ensures.complete);
+      as_asked = subst (λ (t : Tree). IsSearched c.args.at c.args.budget t c.args.sort (told c.args.at c.args.sort near)) c.in-Ok.ensures.tree (searched_by c.args.at c.args.budget (tree_of_ready c.in-Ok.ready) c.args.sort near c.next-near.ensures.answer c.next-near.ensures.for_ever c.next-near.ensures.complete);
       written = written_as (told c.args.at c.args.sort near) c.status_of.result c.bytes.result.now c.status_of.ensures.value line c.put.ensures;
     })
