@@ -8,7 +8,9 @@ use moment_core::Steps;
 use outside_core::{MemSink, MemSource, SureSink, SureSource};
 use std::alloc::{AllocError, Global};
 use std::marker::Brand;
+use std::process::Abort;
 use std::sync::ledger::{Blank, Ledger};
+use std::test::Fail;
 use stored_pair::Book;
 
 fn words_of(alloc: Global, line: &str) -> Result<Vec<String>, AllocError> {
@@ -68,7 +70,7 @@ fn answer_with_faults(
 
 // python3's dates give the answers; years below 1 are moved by 12,000 years, which are 30 times 146,097 days.
 #[test]
-fn the_next_day_of_a_month_is_written_or_edge_or_a_refusal(rt: HostRuntime) {
+fn the_next_day_of_a_month_is_written_or_edge_or_a_refusal(rt: HostRuntime) -> Result<(), Fail> {
     let alloc = rt.alloc();
     let refused = "refused unbuilt\n";
     for (line, text, status, written) in [
@@ -227,18 +229,19 @@ fn the_next_day_of_a_month_is_written_or_edge_or_a_refusal(rt: HostRuntime) {
         ("", "monthly(days=29)", 2, "refused words 0\n"),
         ("walk", "monthly(days=29)", 2, refused),
     ] {
-        let text = Vec::from_slice(alloc, text.as_bytes()).expect(&rt, "");
+        let text = Vec::from_slice(alloc, text.as_bytes())?;
         let mut source = SureSource::new(text);
-        let mut sink = SureSink::new(alloc, 64).expect(&rt, "");
-        let words = words_of(alloc, line).expect(&rt, "");
+        let mut sink = SureSink::new(alloc, 64)?;
+        let words = words_of(alloc, line)?;
         let answered = answer(alloc, &words, &mut source, &mut sink);
         assert_eq!(rt; answered, status, "at {line}");
         assert!(rt; sink.taken() == written.as_bytes(), "at {line}");
     }
+    Ok(())
 }
 
 #[test]
-fn a_failed_read_is_status_4_and_a_failed_write_status_5(rt: HostRuntime) {
+fn a_failed_read_is_status_4_and_a_failed_write_status_5(rt: HostRuntime) -> Result<(), Fail> {
     let alloc = rt.alloc();
     let next = "next at=2024-02-10T00:00:00";
     for (line, text, failed_reads, failed_writes, status) in [
@@ -250,16 +253,17 @@ fn a_failed_read_is_status_4_and_a_failed_write_status_5(rt: HostRuntime) {
         ("show", "empty()", 0, 1, 5),
         ("show", "(", 0, 1, 5),
     ] {
-        let words = words_of(alloc, line).expect(&rt, "");
-        let text = Vec::from_slice(alloc, text.as_bytes()).expect(&rt, "");
-        let reads = Vec::from_slice(alloc, &[0u64][..failed_reads]).expect(&rt, "");
-        let writes = Vec::from_slice(alloc, &[0u64][..failed_writes]).expect(&rt, "");
+        let words = words_of(alloc, line)?;
+        let text = Vec::from_slice(alloc, text.as_bytes())?;
+        let reads = Vec::from_slice(alloc, &[0u64][..failed_reads])?;
+        let writes = Vec::from_slice(alloc, &[0u64][..failed_writes])?;
         let mut source = MemSource::new(text, reads);
-        let mut sink = MemSink::new(alloc, 64, writes).expect(&rt, "");
+        let mut sink = MemSink::new(alloc, 64, writes)?;
         let answered = answer_with_faults(alloc, &words, &mut source, &mut sink);
         assert_eq!(rt; answered, status, "at {line}");
         assert!(rt; sink.taken() == b"".as_slice(), "at {line}");
     }
+    Ok(())
 }
 
 /// The text that has the front so many times before the rest.
@@ -272,36 +276,60 @@ fn repeated(alloc: Global, front: &[u8], times: usize, rest: &[u8]) -> Result<Ve
     Ok(text)
 }
 
+/// `show` over the text ends with this status and writes this line.
+fn shows(
+    rt: &impl Abort,
+    alloc: Global,
+    text: &[u8],
+    status: u8,
+    line: &str,
+) -> Result<(), AllocError> {
+    let words = words_of(alloc, "show")?;
+    let mut source = SureSource::new(Vec::from_slice(alloc, text)?);
+    let mut sink = SureSink::new(alloc, 256)?;
+    let answered = answer(alloc, &words, &mut source, &mut sink);
+    assert_eq!(rt; answered, status, "{text:?}");
+    assert!(rt; sink.taken() == line.as_bytes(), "{text:?}");
+    Ok(())
+}
+
 #[test]
-fn texts_are_shown_or_refused(rt: HostRuntime) {
+fn texts_are_shown_or_refused(rt: HostRuntime) -> Result<(), Fail> {
     let alloc = rt.alloc();
-    let words = words_of(alloc, "show").expect(&rt, "");
-    for (front, times, rest, status, written) in [
+    for (text, status, line) in [
         (
-            "",
-            0usize,
             "!(empty( )|{2024-01-01T00:00:00})",
             0u8,
             "!(empty() | {2024-01-01T00:00:00})\n",
         ),
-        ("", 0, "empty();\nspan()\n", 0, "empty() ; span()\n"),
+        ("empty();\nspan()\n", 0, "empty() ; span()\n"),
         (
-            "",
-            0,
             "{2024-01-01T00:00:00} | {2024-01-01T00:00:00Z}",
             2,
             "refused sort clock\n",
         ),
-        ("", 0, "empty() @", 2, "refused token 8\n"),
-        ("", 0, "", 2, "refused syntax\n"),
-        ("", 0, "daily( )", 2, "refused unbuilt\n"),
-        ("", 0, "{2023-02-29T00:00:00}", 2, "refused moment 1\n"),
-        // a text that is too long is read no further
-        (" ", 65_529, "empty()", 0, "empty()\n"),
+        ("empty() @", 2, "refused token 8\n"),
+        ("", 2, "refused syntax\n"),
+        ("daily( )", 2, "refused unbuilt\n"),
+    ] {
+        shows(&rt, alloc, text.as_bytes(), status, line)?;
+    }
+    Ok(())
+}
+
+#[test]
+fn long_and_deep_texts_are_refused_past_their_limits(rt: HostRuntime) -> Result<(), Fail> {
+    let alloc = rt.alloc();
+    for (front, times, rest, status, line) in [
+        (" ", 65_529usize, "empty()", 0u8, "empty()\n"),
         (" ", 65_537, "", 2, "refused long\n"),
         (" ", 65_540, "", 2, "refused long\n"),
-        // deep texts
+        ("span()|", 9361, "span()", 2, "refused sort nodes\n"),
+        ("a", 65_536, "", 2, "refused syntax\n"),
+        ("(", 65_536, "", 2, "refused syntax\n"),
         ("(", 129, "", 2, "refused syntax\n"),
+        ("!", 65_536, "", 2, "refused syntax\n"),
+        ("!", 129, "empty()", 2, "refused syntax\n"),
         ("!", 128, "empty()", 2, "refused sort depth\n"),
         (
             "!",
@@ -311,18 +339,107 @@ fn texts_are_shown_or_refused(rt: HostRuntime) {
             "!!!!!!!!!!!!!!!!!!!!!!!!!!!!!!!!!!!!!!!!!!!!!!!!!!!!!!!!!!!!!!!!!!!!!!!!!!!!!!!!!!!!!!!!!!!!!!!!!!!!!!!!!!!!!!!!!!!!!!!!!!!!!!!empty()\n",
         ),
     ] {
-        let text = repeated(alloc, front.as_bytes(), times, rest.as_bytes()).expect(&rt, "");
-        let mut source = SureSource::new(text);
-        let mut sink = SureSink::new(alloc, 256).expect(&rt, "");
-        let answered = answer(alloc, &words, &mut source, &mut sink);
-        assert_eq!(rt; answered, status, "at {rest}");
-        assert!(rt; sink.taken() == written.as_bytes(), "at {rest}");
+        let text = repeated(alloc, front.as_bytes(), times, rest.as_bytes())?;
+        shows(&rt, alloc, &text, status, line)?;
     }
+    Ok(())
+}
+
+/// Unions in brackets, down so many levels.
+fn unions(alloc: Global, levels: u32) -> Result<Vec<u8>, AllocError> {
+    let mut text = Vec::from_slice(alloc, b"empty()")?;
+    for _ in 0..levels {
+        let mut union = Vec::from_slice(alloc, b"(")?;
+        union.extend_from_slice(&text)?;
+        union.push(b'|')?;
+        union.extend_from_slice(&text)?;
+        union.push(b')')?;
+        text = union;
+    }
+    Ok(text)
+}
+
+// Nine levels of unions have 512 + 511 nodes, and each sign has one more.
+#[test]
+fn a_set_has_at_most_1024_nodes(rt: HostRuntime) -> Result<(), Fail> {
+    let alloc = rt.alloc();
+    let words = words_of(alloc, "next at=2024-01-01T00:00:00")?;
+    for (signs, status, line) in [(1usize, 0u8, "none "), (2, 2, "refused sort nodes\n")] {
+        let text = repeated(alloc, b"!", signs, &unions(alloc, 9)?)?;
+        let mut source = SureSource::new(text);
+        let mut sink = SureSink::new(alloc, 256)?;
+        let answered = answer(alloc, &words, &mut source, &mut sink);
+        assert_eq!(rt; answered, status, "{line}");
+        assert!(rt; sink.taken().starts_with(line.as_bytes()), "{line}");
+    }
+    Ok(())
+}
+
+#[test]
+fn a_byte_alone_is_no_token_or_no_set(rt: HostRuntime) -> Result<(), Fail> {
+    let alloc = rt.alloc();
+    for b in 0..=255 {
+        let line = match b {
+            b'(' | b')' | b'{' | b'}' | b',' | b';' | b'=' | b'|' | b'&' | b'-' | b'!' => {
+                "refused syntax\n"
+            }
+            b'a'..=b'z' | b'0'..=b'9' => "refused syntax\n",
+            b' ' | b'\t' | b'\n' | b'\r' => "refused syntax\n",
+            _ => "refused token 0\n",
+        };
+        shows(&rt, alloc, &[b], 2, line)?;
+    }
+    Ok(())
+}
+
+#[test]
+fn numbers_strings_and_moments_are_read_up_to_their_limits(rt: HostRuntime) -> Result<(), Fail> {
+    let alloc = rt.alloc();
+    for (text, line) in [
+        ("9999999999999", "refused syntax\n"),
+        ("99999999999999", "refused token 0\n"),
+        ("empty() -9999999999999", "refused syntax\n"),
+        ("empty() -99999999999999", "refused token 8\n"),
+        ("empty() - 99999999999999", "refused token 10\n"),
+        ("empty()-5", "refused syntax\n"),
+        ("{2024-02-30T00:00:00}", "refused moment 1\n"),
+        ("{2023-02-29T00:00:00}", "refused moment 1\n"),
+        ("{2024-01-01T24:00:00}", "refused moment 1\n"),
+        ("{2016-12-31T23:59:60Z}", "refused moment 1\n"),
+        ("{-0000-01-01T00:00:00}", "refused moment 1\n"),
+        ("{-9901-12-31T23:59:59}", "refused moment 1\n"),
+        ("{ 9901-01-01T00:00:00}", "refused moment 2\n"),
+        (
+            "{2024-02-30T00:00:00, 2024-02-31T00:00:00}",
+            "refused moment 1\n",
+        ),
+        (
+            "span(start 2024-01-02T00:00:00, end 2024-01-01T00:00:00)",
+            "refused moment 0\n",
+        ),
+        ("{2024-01-01T00:00:0}", "refused token 11\n"),
+        ("{2024-1-1T00:00:00}", "refused token 9\n"),
+        ("{2024-01-01t00:00:00}", "refused token 14\n"),
+        ("{}", "refused syntax\n"),
+        (
+            "span(end 2024-01-02T00:00:00, start 2024-01-01T00:00:00)",
+            "refused syntax\n",
+        ),
+        ("empty() ; empty() ; empty()", "refused syntax\n"),
+    ] {
+        shows(&rt, alloc, text.as_bytes(), 2, line)?;
+    }
+    for (length, line) in [(1024, "refused syntax\n"), (1025, "refused token 0\n")] {
+        let mut text = repeated(alloc, b"a", length, b"\"")?;
+        text.insert(0, b'"')?;
+        shows(&rt, alloc, &text, 2, line)?;
+    }
+    Ok(())
 }
 
 // The stop is at the first candidate, 946,771,200 seconds after 1970-01-01 by python3, at twice as many positions.
 #[test]
-fn the_next_run_of_a_set_is_written(rt: HostRuntime) {
+fn the_next_run_of_a_set_is_written(rt: HostRuntime) -> Result<(), Fail> {
     let alloc = rt.alloc();
     for (line, text, status, written) in [
         (
@@ -377,12 +494,13 @@ fn the_next_run_of_a_set_is_written(rt: HostRuntime) {
             "budget 1893542400 0\n",
         ),
     ] {
-        let text = Vec::from_slice(alloc, text.as_bytes()).expect(&rt, "");
+        let text = Vec::from_slice(alloc, text.as_bytes())?;
         let mut source = SureSource::new(text);
-        let mut sink = SureSink::new(alloc, 128).expect(&rt, "");
-        let words = words_of(alloc, line).expect(&rt, "");
+        let mut sink = SureSink::new(alloc, 128)?;
+        let words = words_of(alloc, line)?;
         let answered = answer(alloc, &words, &mut source, &mut sink);
         assert_eq!(rt; answered, status, "at {line}");
         assert!(rt; sink.taken() == written.as_bytes(), "at {line}");
     }
+    Ok(())
 }
