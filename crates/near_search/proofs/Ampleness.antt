@@ -1,5 +1,5 @@
 -- That the searches for a next run stay in the calendar range, so that an ample budget is above their candidates.
-use Rattle.std.proofs.Common.{◌≡◌, sym, subst, arith, ℕ, ◌<◌, ℤ, pos, ◌+ℤ◌, ◌-ℤ◌, ◌≤ℤ◌, Bool, Option, Some, None}
+use Rattle.std.proofs.Common.{◌≡◌, sym, subst, arith, ℕ, ℤ, ◌≤ℤ◌, Bool, Option, Some, None}
 use Rattle.std.proofs.lemmas.Int.{ints}
 use Rattle.moment_core.specs.Line.{IsCalendarMoment, IsCalendarPosition, position_of}
 use Rattle.moment_core.specs.declared.line.Dir.TheVariants.{Fore}
@@ -17,7 +17,7 @@ use Rattle.cert_audit.specs.Candidates.{candidates}
 use Rattle.near_search.specs.Ample.{IsAmple, IsWorkingPosition}
 use Rattle.near_search.specs.Neighbours.{IsAmpleForNext}
 use Rattle.near_search.proofs.Days.{below_ample}
-use Rattle.near_search.proofs.Ranging.{in_calendar-window, place_in_range, window_at}
+use Rattle.near_search.proofs.Ranging.{in_calendar-window, place_in_range}
 
 window_end : (a b : ℤ) (w : Window) → a ≤ℤ b → in_calendar a b ≡ Some w → IsCalendarPosition w.hi.0
 window_end a b w order e =

@@ -1,9 +1,9 @@
 -- What the answers of a search say past the calendar range, where the set repeats.
-use Rattle.std.proofs.Common.{◌≡◌, inl, inr, refl, sym, ap, subst, ◌∙◌, arith, ℕ, suc, ◌+◌, ◌-◌, ◌<◌, ◌≤◌, ℤ, pos, ◌+ℤ◌, ◌-ℤ◌, Bool, true, false, not, Option, Some, None, if◌then◌else◌}
+use Rattle.std.proofs.Common.{◌≡◌, inl, inr, refl, sym, ap, subst, ◌∙◌, arith, ℕ, ◌+◌, ◌-◌, ℤ, pos, ◌+ℤ◌, ◌-ℤ◌, Bool, true, false, Option, Some, None, if◌then◌else◌}
 use Rattle.std.proofs.lemmas.Bool.{cases_lt}
 use Rattle.std.specs.Prelude.{IfSome}
-use Rattle.moment_core.specs.Line.{IsCalendarMoment, IsCalendarPosition, moment_of}
-use Rattle.moment_core.specs.Sets.{ahead, seen, IsNextBeginning, IsNextChange, StaysInRange}
+use Rattle.moment_core.specs.Line.{IsCalendarPosition, moment_of}
+use Rattle.moment_core.specs.Sets.{seen, IsNextBeginning}
 use Rattle.moment_core.specs.declared.line.Dir.TheVariants.{Fore}
 use Rattle.moment_core.specs.declared.line.Window.{Window}
 use Rattle.span_core.specs.Answers.{IsFound}
@@ -15,7 +15,6 @@ use Rattle.span_core.specs.declared.answers.Near.TheVariants as nears
 use Rattle.span_core.specs.declared.bounds.Bound.{Bound}
 use Rattle.span_core.specs.declared.bounds.Bound.TheVariants as bounds
 use Rattle.span_core.specs.declared.bounds.Run.{Run}
-use Rattle.span_core.proofs.Searches.{seen-zero}
 use Rattle.frame_core.specs.Frames.{IsPeriod, RepeatsIfFramed, window_if_framed}
 use Rattle.frame_core.specs.declared.frames.Frame.{Frame}
 use Rattle.frame_core.proofs.Repeating.{never_differs}

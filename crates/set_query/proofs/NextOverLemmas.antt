@@ -1,5 +1,5 @@
 -- What a query and a sorted program give to a search.
-use Rattle.std.proofs.Common.{◌≡◌, ◌≤◌, ℕ, List, Bool, true, false, arith, subst, Option, Some, None, option_map, Result, Ok, Err, refl}
+use Rattle.std.proofs.Common.{◌≡◌, ◌≤◌, ℕ, List, arith, subst, Option, Some, None, option_map, Result, Ok, Err, refl}
 use Rattle.expr_text.specs.Faults.{sort_fault, fault_of}
 use Rattle.cert_audit.specs.Candidates.{candidates}
 use Rattle.expr_tree.specs.Members.{is_member}

@@ -1,5 +1,5 @@
 -- Words and a text have one outcome.
-use Rattle.std.proofs.Common.{◌≡◌, ◌≢◌, ◌<◌, ◌≤◌, ◌+◌, ◌-◌, ◌++◌, ◌∷◌, [], ℕ, zero, suc, ℤ, pos, ◌+ℤ◌, ◌-ℤ◌, Bool, true, false, not, ◌&&◌, ◌||◌, ◌⊎◌, inl, inr, List, codes, decimal, sym, ◌∙◌, ap, subst, refl, arith, unsigned_abs, Option, Some, None, Result, Ok, Err, is_none}
+use Rattle.std.proofs.Common.{◌≡◌, ◌≢◌, ◌<◌, ◌≤◌, ◌+◌, ◌-◌, ◌++◌, ◌∷◌, [], ℕ, zero, suc, ℤ, pos, ◌+ℤ◌, ◌-ℤ◌, Bool, true, false, not, ◌&&◌, ◌||◌, ◌⊎◌, inl, inr, List, codes, decimal, sym, ◌∙◌, ap, subst, refl, arith, unsigned_abs, Option, Some, None, Result, Ok, Err}
 use Rattle.std.proofs.lemmas.Bool.{cases_lt, true≢false, and_parts, and_from, not-true, or_cases, or_left, or_right}
 use Rattle.std.proofs.lemmas.Fmt.{decimal_injective}
 use Rattle.std.proofs.lemmas.Slice.Eq.{bytes_eq-Decides}
@@ -13,7 +13,6 @@ use Rattle.expr_text.specs.Faults.{sort_fault}
 use Rattle.expr_tree.specs.Members.{is_member}
 use Rattle.expr_tree.specs.Tree.{Tree, Trees, trees_of}
 use Rattle.expr_tree.specs.declared.sorting.Sort.{Sort}
-use Rattle.expr_tree.specs.declared.sorting.SortFault.{SortFault}
 use Rattle.expr_tree.specs.declared.tree.Program.{Program}
 use Rattle.moment_core.specs.declared.line.Dir.TheVariants.{Fore}
 use Rattle.moment_core.specs.declared.line.Stamp.{Stamp}
@@ -25,13 +24,12 @@ use Rattle.moment_text.specs.Literal.{literal_of}
 use Rattle.near_search.proofs.Endless.{next_for_ever}
 use Rattle.near_search.proofs.Nearing.{one_next, some_next}
 use Rattle.query_words.specs.Laws.{AnswersAreUnique, AnswersExist}
-use Rattle.query_words.specs.Words.{Asks, IsAnswer as IsAnswerOf}
+use Rattle.query_words.specs.Words.{IsAnswer as IsAnswerOf}
 use Rattle.query_words.specs.declared.queries.Query.{Query}
 use Rattle.query_words.specs.declared.queries.Query.TheVariants.{Next, Show}
 use Rattle.query_words.specs.declared.queries.WordsFault.{WordsFault}
-use Rattle.span_core.specs.declared.answers.Near.{Near}
 use Rattle.set_query.specs.Laws.{OutcomesAreUnique, OutcomesExist}
-use Rattle.set_query.specs.Refusals.{fault_line, sort_line, words_line}
+use Rattle.set_query.specs.Refusals.{fault_line, words_line}
 use Rattle.set_query.specs.Report.{Outcome, IsAlone, IsInRange, IsNextLine, IsNextOver, IsOfLanguage, IsOutcome, IsReply, IsSearched, answered, bad_words, by_trees, clock, clocks_differ, edge, faulty, found, monthly, next, refused_by, replied, searched, shown, stopped, told, two, window_of}
 use Rattle.set_query.specs.Texts.{HasRule, IsLine, SpellsMonthly, is_monthly, monthly_text}
 use Rattle.set_query.proofs.NextOverLemmas.{asks_in_range, sort_of_first}

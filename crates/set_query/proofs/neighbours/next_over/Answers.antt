@@ -1,5 +1,4 @@
-use Rattle.std.proofs.Common.{rules, ◌≡◌, inl, inr, codes, None, Ok, true, false, option_map, sym, ◌∙◌}
-use Rattle.expr_tree.specs.Sorts.{sort_of_tree}
+use Rattle.std.proofs.Common.{rules, ◌≡◌, inl, inr, codes, None, true, false, option_map, sym, ◌∙◌}
 use Rattle.expr_tree.specs.Tree.{tree_of, trees_of}
 use Rattle.set_query.specs.Report.{IsAlone, clocks_differ, refused_by, two, clock, searched}
 use Rattle.set_query.proofs.NextOverLemmas.{some_tree}

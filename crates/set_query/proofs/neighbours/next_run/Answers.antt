@@ -1,7 +1,7 @@
 use Rattle.std.proofs.Common.{rules, ◌≡◌, inl, subst}
 use Rattle.cert_audit.specs.Lowered.{tree_of_ready}
 use Rattle.moment_core.specs.Clocks.{clock_of_stamp}
-use Rattle.expr_tree.specs.Tree.{Tree, tree_of}
+use Rattle.expr_tree.specs.Tree.{Tree}
 use Rattle.report_text.specs.Lines.{near_line}
 use Rattle.set_query.specs.Report.{IsSearched, told}
 use Rattle.set_query.proofs.NextOverLemmas.{searched_by, written_as}

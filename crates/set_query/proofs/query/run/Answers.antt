@@ -1,4 +1,4 @@
-use Rattle.std.proofs.Common.{map, inl, inr, Ok, Err}
+use Rattle.std.proofs.Common.{map, Ok, Err}
 use Rattle.std.specs.String.{string_bytes}
 use Rattle.set_query.proofs.OutcomeLemmas.{refused-ends, replied-ends, ends_ample, ends_complete, ends_done, ends_ended, ends_memory, ends_read, ends_sink_fault, ends_statuses}
 use Rattle.set_query.proofs.query.run.Goals as goal
