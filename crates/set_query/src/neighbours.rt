@@ -1,11 +1,10 @@
 //! Answering `next`.
 
-ghost use Rattle.std.specs.Prelude.{◌≡◌, ◌⊎◌, ◌≤◌, ◌<◌, ℕ, Ok, None};
+ghost use Rattle.std.specs.Prelude.{◌≡◌, ◌⊎◌, ◌≤◌, ◌<◌, ℕ, None};
+ghost use Rattle.cert_audit.specs.Lowered.{tree_of_ready};
 ghost use Rattle.expr_text.specs.Accepted.{AreWellFormed};
 ghost use Rattle.expr_text.specs.Faults.{sort_fault};
-ghost use Rattle.expr_tree.specs.Sorts.{sort_of_tree};
-ghost use Rattle.expr_tree.specs.Tree.{tree_of, trees_of};
-ghost use Rattle.expr_tree.specs.WellFormed.{IsWellFormed};
+ghost use Rattle.expr_tree.specs.Tree.{trees_of};
 ghost use Rattle.moment_core.specs.Line.{IsCalendarMoment};
 ghost use Rattle.query_words.specs.declared.queries.Query.TheVariants.{Next};
 ghost use Rattle.set_query.specs.Effects.{IsReported};
@@ -17,7 +16,7 @@ use crate::texts::rule_day;
 use crate::writing::{answer, put};
 use cert_audit::Ready;
 use expr_text::read_program;
-use expr_tree::{Expr, Program, Sort, sort_of};
+use expr_tree::{Program, Sort, sort_of};
 use moment_core::{Stamp, Steps};
 use outside_core::Sink;
 use report_text::line_near;
@@ -43,36 +42,27 @@ fn status_of(near: Near) -> u8
     }
 }
 
-/// Searches the set for the run after the moment and writes its line; the status is 6, and nothing is written, where no
-/// memory is left for the search.
+/// Searches the set for the run after the moment, and writes its line.
 fn next_run<K: Sink, L: Ledger>(
-    alloc: Global,
     at: Stamp,
     budget: u64,
-    set: &Expr,
+    ready: &Ready,
     sort: Sort,
-    book: &Book,
     sink: &mut K,
     steps: &mut Steps<L>,
 ) -> u8
     requires range { IsCalendarMoment at.moment.0 }
     requires budget { 1 ≤ budget }
-    requires set { IsWellFormed (tree_of set.now) }
-    requires sort { sort_of_tree (tree_of set.now) ≡ Ok sort }
-    ensures outcome { IsReported (IsSearched at budget (tree_of set.now) sort) (K.taken sink.old) (K.taken sink.new) (K.faults sink.old) (K.faults sink.new) result ⊎ (result ≡ 6) × (sink.new ≡ sink.old) }
+    ensures outcome { IsReported (IsSearched at budget (tree_of_ready ready.now) sort) (K.taken sink.old) (K.taken sink.new) (K.faults sink.old) (K.faults sink.new) result }
     ensures steps { steps.old ≤ steps.new }
 {
-    match Ready::make(alloc, set, book) {
-        Ok(ready) => {
-            let near = near_search::next(&ready, at.moment, budget, steps);
-            let line = line_near(near, sort.kind, at.clock());
-            put(sink, line.bytes(), status_of(near))
-        }
-        Err(_) => 6,
-    }
+    let near = near_search::next(ready, at.moment, budget, steps);
+    let line = line_near(near, sort.kind, at.clock());
+    put(sink, line.bytes(), status_of(near))
 }
 
-/// Writes the run after the moment, where the program has one set and it may be on the moment's clock, or the refusal.
+/// Writes the run after the moment, where the program has one set and it may be on the moment's clock, or the refusal; the status
+/// is 6, and nothing is written, where no memory is left for the search.
 fn next_over<K: Sink, L: Ledger>(
     alloc: Global,
     at: Stamp,
@@ -98,7 +88,10 @@ fn next_over<K: Sink, L: Ledger>(
     if clocks_differ(at, sort) {
         return put(sink, b"refused clock\n", 2);
     }
-    next_run(alloc, at, budget, &program.first, sort, book, sink, steps)
+    match Ready::make(alloc, &program.first, book) {
+        Ok(ready) => next_run(at, budget, &ready, sort, sink, steps),
+        Err(_) => 6,
+    }
 }
 
 /// Reads the text as one of the language and writes the run after the moment, or the refusal of the text.
