@@ -19,9 +19,7 @@ fn fixed(text: &[u8]) -> ArrayVec<u8, 36>
     ensures { result.items ≡ text.now }
 {
     let mut line = ArrayVec::new();
-    let Ok(()) = line.try_extend_from_slice(text) else {
-        unreachable!();
-    };
+    line.try_extend_from_slice(text).unwrap();
     line
 }
 
@@ -32,9 +30,8 @@ fn numbered(words: &[u8], number: usize) -> ArrayVec<u8, 36>
 {
     let mut line = fixed(words);
     let mut digits = Buffer::new();
-    let Ok(()) = line.try_extend_from_slice(digits.format(number).as_bytes()) else {
-        unreachable!();
-    };
+    line.try_extend_from_slice(digits.format(number).as_bytes())
+        .unwrap();
     line.push(b'\n');
     line
 }

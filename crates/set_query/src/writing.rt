@@ -29,9 +29,7 @@ fn with_line_feed(piece: &[u8]) -> ArrayVec<u8, 22>
     ensures { result.items ≡ piece.now ++ 10 ∷ [] }
 {
     let mut line = ArrayVec::new();
-    let Ok(()) = line.try_extend_from_slice(piece) else {
-        unreachable!();
-    };
+    line.try_extend_from_slice(piece).unwrap();
     line.push(b'\n');
     line
 }
