@@ -15,8 +15,9 @@ use std::sync::ledger::Ledger;
 /// The first run that begins after the moment, by searches of the set forwards, each with the budget.
 ///
 /// Where none begins up to the end of the calendar range, `None` gives the window after which the set repeats, in which nothing
-/// differs, so that none ever begins, and `Edge` says nothing of what lies past the range. A run without a last bound never ends. `Budget` comes only where one of the searches stops: from the
-/// moment, from the end of its run, or from the beginning of the next one.
+/// differs, so that none ever begins, and `Edge` says nothing of what lies past the range. A run without a last bound never
+/// ends. `Budget` comes only where one of the searches stops: from the moment, from the end of its run, or from the beginning
+/// of the next one.
 pub fn next<L: Ledger>(r: &Ready, at: Moment, budget: u64, steps: &mut Steps<L>) -> Near
     requires range { IsCalendarMoment at.0 }
     requires budget { 1 ≤ budget }
