@@ -1,5 +1,6 @@
-ghost use Rattle.std.specs.Prelude.{◌≡◌, ◌≤◌, true, false};
+ghost use Rattle.std.specs.Prelude.{◌≡◌, ◌≤◌, ℕ, true, false, IfOk, IfErr};
 ghost use Rattle.moment_core.specs.Line.{IsCalendarMoment, IsCalendarPosition, position_of};
+ghost use Rattle.moment_core.specs.Sets.{IsNextChange};
 ghost use Rattle.moment_core.specs.declared.line.Dir.TheVariants.{Fore};
 ghost use Rattle.span_core.specs.Answers.{IsCalendarNear};
 ghost use Rattle.span_core.specs.Bounds.{low_bound};
@@ -58,6 +59,23 @@ fn holds<L: Ledger>(r: &Ready, p: Pos, budget: u64, steps: &mut Steps<L>) -> boo
     }
 }
 
+/// The nearest change past the position, or where nothing differs past it, that no run begins there; or that the search stopped.
+fn next_change<L: Ledger>(r: &Ready, p: Pos, budget: u64, steps: &mut Steps<L>) -> Result<Pos, Near>
+    requires range { IsCalendarPosition p.0 }
+    requires budget { 1 ≤ budget }
+    ensures change { IfOk result (λ x. IsNextChange (members_of r.now) Fore p.0 x.0 × IsCalendarPosition x.0) }
+    ensures none { IfErr result (λ near. (n : ℕ) →
+        IsNextPastOrStop (members_of r.now) (window_if_framed (frame_of_ready r.now) Fore) (candidates_of r.now) n p.0 budget near) }
+    ensures counted { steps.old ≤ steps.new }
+{
+    match sweep(r, p, Dir::Fore, budget, steps) {
+        Answer::At(change) => Ok(change),
+        Answer::None(window) => Err(Near::None(window)),
+        Answer::Edge => Err(Near::Edge),
+        Answer::Budget(stop) => Err(Near::Budget(stop)),
+    }
+}
+
 /// The first run that begins past a member: past the end of that member's run.
 fn after_member<L: Ledger>(r: &Ready, p: Pos, budget: u64, steps: &mut Steps<L>) -> Near
     requires range { IsCalendarPosition p.0 }
@@ -66,11 +84,9 @@ fn after_member<L: Ledger>(r: &Ready, p: Pos, budget: u64, steps: &mut Steps<L>)
     ensures answer { IsNextPastOrStop (members_of r.now) (window_if_framed (frame_of_ready r.now) Fore) (candidates_of r.now) 2 p.0 budget result }
     ensures counted { steps.old ≤ steps.new }
 {
-    match sweep(r, p, Dir::Fore, budget, steps) {
-        Answer::At(gap) => after_gap(r, gap, budget, steps),
-        Answer::None(full) => Near::None(full),
-        Answer::Edge => Near::Edge,
-        Answer::Budget(stop) => Near::Budget(stop),
+    match next_change(r, p, budget, steps) {
+        Ok(gap) => after_gap(r, gap, budget, steps),
+        Err(near) => near,
     }
 }
 
@@ -82,11 +98,9 @@ fn after_gap<L: Ledger>(r: &Ready, p: Pos, budget: u64, steps: &mut Steps<L>) ->
     ensures answer { IsNextPastOrStop (members_of r.now) (window_if_framed (frame_of_ready r.now) Fore) (candidates_of r.now) 1 p.0 budget result }
     ensures counted { steps.old ≤ steps.new }
 {
-    match sweep(r, p, Dir::Fore, budget, steps) {
-        Answer::At(first) => run_from(r, first, budget, steps),
-        Answer::None(empty) => Near::None(empty),
-        Answer::Edge => Near::Edge,
-        Answer::Budget(stop) => Near::Budget(stop),
+    match next_change(r, p, budget, steps) {
+        Ok(first) => run_from(r, first, budget, steps),
+        Err(near) => near,
     }
 }
 
