@@ -1,5 +1,5 @@
 -- How the day of a date and the date of a day go together.
-use Rattle.std.proofs.Common.{◌≡◌, ℕ, suc, ◌+◌, ◌-◌, ◌<◌, ◌≤◌, Bool, true, false, cond, refl, ap, ◌∙◌, arith, ℤ, pos, ◌+ℤ◌, ◌-ℤ◌, ◌<ℤ◌, ◌≤ℤ◌}
+use Rattle.std.proofs.Common.{◌≡◌, ℕ, suc, ◌+◌, ◌-◌, ◌<◌, ◌≤◌, Bool, true, false, cond, refl, ap, ◌∙◌, arith, ℤ, pos, ◌+ℤ◌, ◌-ℤ◌, ◌≤ℤ◌}
 use Rattle.std.specs.Int.{IsInRange}
 use Rattle.std.proofs.lemmas.Int.{by_lt_z}
 use Rattle.moment_core.proofs.FloorLemmas.{floor_arith, one_part}
@@ -106,14 +106,6 @@ part_bounds day =
     let in_month = (month_of-is day).1 in
     let in_year = (days_into_year-is day).1 in
     (omega arith, omega arith, omega arith, omega arith)
-
--- a date of a year lies from its first day to the day before the next year
-pub day_number-in_year : (y : ℤ) (m d : ℕ) → IsInRange 1 12 m → IsInRange 1 (month_len (is_leap y) m) d → (first_day y ≤ℤ day_number y m d) × (day_number y m d <ℤ first_day (y +ℤ pos 1))
-day_number-in_year y m d in_year in_month =
-    let day = day_number y m d in
-    let is = year_of-is day in
-    let year = (date-of_day_number y m d in_year in_month).0 in
-    rw year at is
 
 pub month_of_mono : (day later : ℤ) → year_of day ≡ year_of later → days_into_year day ≤ days_into_year later → month_of day ≤ month_of later
 unfolding month_of

@@ -1,6 +1,11 @@
+pub mod Comparing
+pub mod CycleLaws
 pub mod DateLaws
 pub mod FloorLemmas
+pub mod LineLaws
+pub mod Lists
 pub mod MonthLaws
 pub mod TimeLaws
+pub mod UnitLaws
 pub mod WeekLaws
 pub mod YearLaws

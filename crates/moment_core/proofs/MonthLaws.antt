@@ -5,7 +5,7 @@ use Rattle.std.proofs.lemmas.Bool.{cases_lt}
 use Rattle.std.proofs.lemmas.Int.{by_lt_z}
 use Rattle.moment_core.proofs.FloorLemmas.{floor_arith}
 use Rattle.moment_core.specs.Calendar.{floor_div, floor_mod, is_leap, month_len, days_of_months, first_day, day_number, year_of, month_of, day_of_month, month_number, month_first}
-use Rattle.moment_core.proofs.YearLaws.{first_day-next, first_day-cycle, is_leap-cycle, year_of-cycle}
+use Rattle.moment_core.proofs.YearLaws.{first_day-next, year_of-cycle}
 use Rattle.moment_core.proofs.DateLaws.{days_of_months-zero, days_of_months-suc, days_of_months-year, month_of-is, month_of-cycle, day_number-of, date-of_day_number, month_len_bounds, month_number_mono}
 
 pub day_number-january : (y : ℤ) (d : ℕ) → 1 ≤ d → day_number y 1 d +ℤ pos 1 ≡ first_day y +ℤ pos d
@@ -111,13 +111,6 @@ month_number-unique day n low high =
     (λ ge. omega (arith, floor_arith))
 
 -- 4,800 months are a cycle
-pub month_first-cycle : (n : ℤ) → month_first (n +ℤ pos 4800) ≡ month_first n +ℤ pos 146_097
-unfolding month_first day_number
-month_first-cycle n =
-    let y = floor_div n 12 in
-    let s = floor12-unique (n +ℤ pos 4800) (y +ℤ pos 400) (floor_mod n 12) (omega (arith, floor_arith)) (omega (arith, floor_arith)) in
-    rw (s.0, s.1, is_leap-cycle y, first_day-cycle y) (omega (arith, floor_arith))
-
 pub month_number-cycle : (day : ℤ) → month_number (day +ℤ pos 146_097) ≡ month_number day +ℤ pos 4800
 unfolding month_number
 month_number-cycle day = rw (year_of-cycle day, month_of-cycle day) (omega (arith, floor_arith))

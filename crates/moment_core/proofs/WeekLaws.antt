@@ -34,13 +34,6 @@ weeks-hold_days first day h =
     let is = week_start-is first day h in
     (is.0, is.1, omega (arith, floor_arith))
 
-pub week_start-unique : (first : ℕ) (day start : ℤ) → IsInRange 1 7 first → weekday_of start ≡ first → start ≤ℤ day → day ≤ℤ (start +ℤ pos 6) → week_start first day ≡ start
-unfolding week_start
-week_start-unique first day start h on low high =
-    let e = weekday_of-parts day in
-    let f = weekday_of-parts start in
-    omega (arith, floor_arith)
-
 -- week 1 begins within three days of 1 January: it has at least four days in the year, and the week before has not
 pub week_one-is : (first : ℕ) (y : ℤ) → IsInRange 1 7 first → (weekday_of (week_one first y) ≡ first) × (week_one first y ≤ℤ (first_day y +ℤ pos 3)) × (first_day y ≤ℤ (week_one first y +ℤ pos 3))
 unfolding week_one

@@ -4,6 +4,8 @@ use Rattle.std.specs.Int.{IsInRange}
 use Rattle.moment_core.specs.declared.line.TheConstants.{LOW, HIGH, WIDTH, G}
 use Rattle.moment_core.specs.Line.{IsCalendarMoment, IsWorkingMoment}
 use Rattle.moment_core.specs.Calendar.{is_leap, year_len, month_len, first_day, day_number, year_of, days_into_year, month_of, day_of_month, weekday_of, week_start, week_one, week_year_of, week_of, weeks_in_year, month_number, month_first, week_number}
+use Rattle.moment_core.specs.Units.{HasWeekday, unit_of, units_of}
+use Rattle.moment_core.specs.declared.units.Unit.{Unit as TimeUnit}
 use Rattle.moment_core.specs.TimeOfDay.{day_of, second_of_day, hour_of, minute_of, second_of, IsCivil, seconds_of}
 
 -- a year's days lie from its first day to the day before the next year's, and no other year holds them
@@ -120,6 +122,21 @@ WeeksRepeat =
 abbrev pub TimesRepeat : Type 0
 TimesRepeat =
     (t : ℤ) → (day_of (t +ℤ pos G) ≡ day_of t +ℤ pos 146_097) × (second_of_day (t +ℤ pos G) ≡ second_of_day t)
+
+-- and the number of each unit is that of the same unit 400 years later
+abbrev pub UnitsRepeat : Type 0
+UnitsRepeat = (unit : TimeUnit) (t : ℤ) → unit_of unit (t +ℤ pos G) ≡ unit_of unit t +ℤ pos (units_of unit)
+
+-- a later moment is of no earlier unit
+abbrev pub LaterMomentsAreOfLaterUnits : Type 0
+LaterMomentsAreOfLaterUnits =
+    (unit : TimeUnit) (t later : ℤ) → HasWeekday unit → t ≤ℤ later → unit_of unit t ≤ℤ unit_of unit later
+
+-- no unit has 54 weeks: two moments of one unit lie less than 54 weeks apart
+abbrev pub UnitsAreShort : Type 0
+UnitsAreShort =
+    (unit : TimeUnit) (t later : ℤ) → HasWeekday unit → unit_of unit t ≡ unit_of unit later
+    → later <ℤ (t +ℤ pos (54 * 604_800))
 
 -- the calendar range has `WIDTH` moments, those of the years from -9900 to 9900, and the working range lies in the years
 -- from -9990 to 9990

@@ -2,7 +2,11 @@ pub mod Calendar
 pub mod CalendarLaws
 pub mod Clocks
 pub mod Counter
+pub mod Joining
 pub mod Line
+pub mod LineLaws
+pub mod Ranks
 pub mod Sets
 pub mod Steps
 pub mod TimeOfDay
+pub mod Units

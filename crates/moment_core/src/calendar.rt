@@ -1,4 +1,4 @@
-ghost use Rattle.moment_core.specs.CalendarLaws.{YearsHoldDays, YearsFollow, MonthsHoldDays, MonthsFollow, DatesNameDays, TimesNameMoments, WeekdaysFollow, WeeksHoldDays, WeeksFollow, FirstWeeksHaveFourDays, WeekYearsHoldDays, WeekYearsFollow, LaterDaysAreOfLaterUnits, DatesRepeat, WeeksRepeat, TimesRepeat, RangesAreOfYears};
+ghost use Rattle.moment_core.specs.CalendarLaws.{YearsHoldDays, YearsFollow, MonthsHoldDays, MonthsFollow, DatesNameDays, TimesNameMoments, WeekdaysFollow, WeeksHoldDays, WeeksFollow, FirstWeeksHaveFourDays, WeekYearsHoldDays, WeekYearsFollow, LaterDaysAreOfLaterUnits, DatesRepeat, WeeksRepeat, TimesRepeat, UnitsRepeat, LaterMomentsAreOfLaterUnits, UnitsAreShort, RangesAreOfYears};
 
 /// The laws that the words of the calendar keep, on all whole numbers (proleptic Gregorian calendar; for weeks that
 /// begin on Monday, the weeks of ISO 8601). It does nothing.
@@ -19,5 +19,8 @@ pub fn calendar_laws()
     ensures dates_repeat { DatesRepeat }
     ensures weeks_repeat { WeeksRepeat }
     ensures times_repeat { TimesRepeat }
+    ensures units_repeat { UnitsRepeat }
+    ensures later_moments_are_of_later_units { LaterMomentsAreOfLaterUnits }
+    ensures units_are_short { UnitsAreShort }
     ensures ranges_are_of_years { RangesAreOfYears }
 {}

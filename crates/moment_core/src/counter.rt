@@ -22,7 +22,7 @@ impl<L: Ledger> Model for Steps<L> {
 }
 
 impl<L: Ledger> Steps<L> {
-    ghost use Rattle.std.specs.Prelude.{◌≡◌, ◌+◌, ◌<◌};
+    ghost use Rattle.std.specs.Prelude.{◌≡◌, ◌+◌, ◌<◌, ◌≤◌};
     ghost use Rattle.moment_core.specs.Counter.{capped};
 
     /// A counter at 0, from a blank of its ledger.
@@ -38,7 +38,8 @@ impl<L: Ledger> Steps<L> {
 
     /// Counts one step more, where the counter isn't full.
     pub fn tick(&mut self)
-        ensures { self.new ≡ capped (self.old + 1) }
+        ensures count { self.new ≡ capped (self.old + 1) }
+        ensures grows { self.old ≤ self.new }
     {
         self.book.add(&mut self.share, 1);
     }

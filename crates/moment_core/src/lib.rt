@@ -7,15 +7,21 @@
 mod calendar;
 mod clocks;
 mod counter;
+mod joining;
+mod laws;
 mod line;
+mod units;
 mod week;
 
 pub use calendar::calendar_laws;
 pub use counter::Steps;
+pub use joining::Op;
+pub use laws::line_laws;
 pub use line::{
     Clock, Dir, G, HIGH, LOW, Moment, Pos, REACH, Stamp, Step, WIDTH, Window, floor, in_range,
     in_work, of,
 };
+pub use units::Unit;
 pub use week::Weekday;
 
 #[cfg(test)]

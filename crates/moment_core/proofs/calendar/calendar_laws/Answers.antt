@@ -3,6 +3,7 @@ use Rattle.moment_core.proofs.YearLaws.{year_of-is, year_of-unique, first_day-19
 use Rattle.moment_core.proofs.DateLaws.{month_of-is, day_number-of, date-of_day_number, month_number_mono, month_of-cycle, day_of_month-cycle, days_into_year-cycle, weekday_of-cycle}
 use Rattle.moment_core.proofs.MonthLaws.{month_number-is, month_number-unique, month_first-january, month_first-follows, month_number-cycle}
 use Rattle.moment_core.proofs.TimeLaws.{IsCivil-fields, seconds_of-fields, fields-of_seconds, day_of-cycle, years-of_calendar_moment, IsCalendarMoment-of_years, years-of_working_moment}
+use Rattle.moment_core.proofs.UnitLaws.{unit-below-54-weeks, unit_of-cycle, unit_of_mono}
 use Rattle.moment_core.proofs.WeekLaws.{weekday_of-zero, weekday_of-next, weeks-hold_days, week_number-is, week_one-is, week_year_of-is, week_year_of-unique, week_of-bounds, week_of-is, weeks_in_year-is, week_number_mono, week_year_of_mono, weeks_in_year-cycle, week_year_of-cycle, week_of-cycle, week_number-cycle}
 use Rattle.moment_core.proofs.calendar.calendar_laws.Goals as goal
 
@@ -59,6 +60,15 @@ returns-clause-weeks_repeat c = λ first h. (
 
 pub returns-clause-times_repeat : goal.returns-clause-times_repeat
 returns-clause-times_repeat c = day_of-cycle
+
+pub returns-clause-units_repeat : goal.returns-clause-units_repeat
+returns-clause-units_repeat c = unit_of-cycle
+
+pub returns-clause-later_moments_are_of_later_units : goal.returns-clause-later_moments_are_of_later_units
+returns-clause-later_moments_are_of_later_units c = unit_of_mono
+
+pub returns-clause-units_are_short : goal.returns-clause-units_are_short
+returns-clause-units_are_short c = unit-below-54-weeks
 
 pub returns-clause-ranges_are_of_years : goal.returns-clause-ranges_are_of_years
 returns-clause-ranges_are_of_years c = (refl, λ t. ((years-of_calendar_moment t, IsCalendarMoment-of_years t), years-of_working_moment t))
