@@ -172,3 +172,22 @@ pub gcd_some : (a b g : ℕ) → 1 ≤ a → g ≡ greatest_common a b → 0 < g
 gcd_some a b g some e =
     let positive = greatest_common-positive a b (omega arith) in
     omega arith
+
+-- the period of a rule is m times 400 years, after which the interval has come round j times
+pub period_of_rule-round : (units interval : ℕ) → 1 ≤ interval → (1 ≤ period_of_rule units interval) × ((m : ℕ) × (j : ℕ) × (period_of_rule units interval ≡ m * G) × (m * units ≡ j * interval))
+unfolding period_of_rule
+period_of_rule-round units interval some =
+    let g = greatest_common interval units in
+    let gcd = greatest_common-IsGcd interval units in
+    let positive : 0 < g = greatest_common-positive interval units (omega arith) in
+    let m = interval / g in
+    let j = units / g in
+    let of_interval : g * m ≡ interval = mul-div_cancel' g gcd.0 in
+    let of_units : g * j ≡ units = mul-div_cancel' g gcd.1 in
+    let period : G * interval / g ≡ m * G = div-of_right G interval g positive gcd.0 ∙ mul_comm G m in
+    let round : m * units ≡ j * interval = sym (ap (λ x. m * x) of_units) ∙ grind arith ∙ ap (λ x. j * x) of_interval in
+    let more : 0 < m = elim (cases_eq m 0) [
+      | inl none ↦ absurd (let zero : g * m ≡ 0 = rw none (omega arith) in omega arith)
+      | inr there ↦ omega arith
+    ] in
+    (omega arith, (m, j, period, round))

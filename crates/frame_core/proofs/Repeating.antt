@@ -1,23 +1,19 @@
 -- Sets that repeat, and what one period says of the whole line.
-use Rattle.std.proofs.Common.{◌≡◌, inl, inr, ap, refl, sym, ◌∙◌, arith, ℕ, zero, suc, ◌+◌, ◌-◌, ◌*◌, ◌/◌, ◌<◌, ◌≤◌, ℤ, pos, ◌+ℤ◌, ◌-ℤ◌, ◌≤ℤ◌, unsigned_abs, Bool, true, false, ◌&&◌, int_le, nat_le, Some, None, if◌then◌else◌}
+use Rattle.std.proofs.Common.{◌≡◌, inl, inr, ap, refl, sym, ◌∙◌, arith, ℕ, zero, suc, ◌+◌, ◌-◌, ◌*◌, ◌/◌, ◌<◌, ◌≤◌, ℤ, pos, ◌+ℤ◌, ◌-ℤ◌, ◌≤ℤ◌, unsigned_abs, Bool, true, false, nat_le, Some, None, if◌then◌else◌}
 use Rattle.std.proofs.Math.Nat.{mul-div_cancel', mul_assoc, mul_comm, suc-mul}
-use Rattle.std.proofs.lemmas.Bool.{and_parts, cases_lt, leb-true}
+use Rattle.std.proofs.lemmas.Bool.{cases_lt, leb-true}
 use Rattle.std.proofs.lemmas.Int.{clamps, ints}
 use Rattle.std.specs.Int.{int_max, int_min, ◌∣◌}
-use Rattle.moment_core.specs.Line.{IsCalendarPosition, position_of}
 use Rattle.moment_core.specs.Sets.{ahead, seen}
 use Rattle.moment_core.specs.declared.line.Dir.{Dir}
 use Rattle.moment_core.specs.declared.line.Dir.TheVariants.{Fore, Back}
-use Rattle.moment_core.specs.declared.line.TheConstants.{LOW, HIGH, WIDTH}
-use Rattle.moment_core.specs.declared.line.Window.{Window}
-use Rattle.span_core.specs.Answers.{IsFound, IsUpTo}
-use Rattle.span_core.specs.declared.answers.Answer.TheVariants.{None as Never}
-use Rattle.frame_core.specs.Frames.{IsPeriod, Repeats, framed, in_calendar, join_of, repeats_by, repeats_from, window_after}
+use Rattle.moment_core.specs.declared.line.TheConstants.{WIDTH}
+use Rattle.span_core.specs.Answers.{IsUpTo}
+use Rattle.frame_core.specs.Frames.{IsPeriod, Repeats, framed, join_of, repeats_by, repeats_from}
 use Rattle.frame_core.specs.Periods.{in_width, least_common}
 use Rattle.frame_core.specs.declared.frames.Frame.{Frame}
 use Rattle.frame_core.proofs.Multiples.{least_common-IsLeastCommon}
-use Rattle.span_core.proofs.Comparing.{int_le-true}
-use Rattle.span_core.proofs.Searches.{ahead-ahead, seen-zero}
+use Rattle.moment_core.proofs.LineLaws.{ahead-ahead, seen-zero}
 
 -- p lies where a set with the frame repeats, in the direction
 abbrev pub IsFrom : Frame → Dir → ℤ → Type 0
@@ -153,30 +149,6 @@ keeps set frame dir p positive r near k =
     ap set (sym (ahead-ahead dir p j n)) ∙ Repeats-again set frame r dir (ahead dir p j) past in
     let same = λ (j : ℕ) (h : j ≤ from + n). near j (rw begins (up_to-ahead dir p j (from + n) h)) ∙ sym start in
     keeps_within (seen set dir p) from n (omega arith) again same k k (omega arith) ∙ start
-
-abbrev window_at : ℤ → ℤ → Window
-window_at a b = record { lo = record { 0 = a }; hi = record { 0 = b } }
-
--- the window from a to b lies in the calendar range, where it is there
-pub in_calendar-is : (a b : ℤ) (w : Window) → in_calendar a b ≡ Some w → (position_of LOW ≤ℤ a) × (b ≤ℤ position_of HIGH)
-in_calendar-is a b w = elim (int_le (position_of LOW) a && int_le b (position_of HIGH)) as (λ t. (int_le (position_of LOW) a && int_le b (position_of HIGH)) ≡ t → (if t then Some (window_at a b) else None) ≡ Some w → (position_of LOW ≤ℤ a) × (b ≤ℤ position_of HIGH)) [
-  | true ↦ λ t e.
-      let parts = and_parts (int_le (position_of LOW) a) (int_le b (position_of HIGH)) t in
-      (int_le-true (position_of LOW) a parts.0, int_le-true b (position_of HIGH) parts.1)
-  | false ↦ λ t e. absurd cc
-] refl
-
-up_to_window : (frame : Frame) (dir : Dir) (p : ℤ) (w : Window) (k : ℕ) → IsCalendarPosition p → window_after frame dir p ≡ Some w → IsUpTo dir (repeats_by frame dir p) (ahead dir p k) → IsCalendarPosition (ahead dir p k)
-up_to_window frame Fore p w k here e near =
-    let within = in_calendar-is (repeats_from frame Fore p) (repeats_by frame Fore p) w e in
-    (omega (arith, ints), omega (arith, ints))
-up_to_window frame Back p w k here e near =
-    let within = in_calendar-is (repeats_by frame Back p) (repeats_from frame Back p) w e in
-    (omega (arith, ints), omega (arith, ints))
-
-pub never_differs : (set : ℤ → Bool) (frame : Frame) (dir : Dir) (p : ℤ) (w : Window) → 0 < frame.period → Repeats set frame → IsCalendarPosition p → IsFound set (window_after frame dir p) dir p (Never w) → (k : ℕ) → seen set dir p k ≡ set p
-never_differs set frame dir p w positive r here found =
-    keeps set frame dir p positive r (λ k near. found.0 k (up_to_window frame dir p w k here found.1 near))
 
 -- the joined frame, part by part, where the period is no longer than the calendar range
 pub join_of-is : (a b joined : Frame) → joined.lo.0 ≡ int_min a.lo.0 b.lo.0 → joined.hi.0 ≡ int_max a.hi.0 b.hi.0 → in_width (least_common a.period b.period) ≡ Some joined.period → join_of a b ≡ Some joined

@@ -1,5 +1,5 @@
 -- Sets that repeat from somewhere on, both ways.
-use Rattle.std.specs.Prelude.{◌≡◌, ◌*◌, ◌≤◌, ℕ, ℤ, pos, ◌+ℤ◌, ◌-ℤ◌, ◌≤ℤ◌, Bool, ◌&&◌, int_le, nat_le, Option, Some, None, if◌then◌else◌}
+use Rattle.std.specs.Prelude.{◌≡◌, ◌*◌, ◌≤◌, ℕ, ℤ, pos, ◌+ℤ◌, ◌-ℤ◌, ◌≤ℤ◌, Bool, ◌&&◌, int_le, nat_le, Option, Some, None, IfSome, if◌then◌else◌}
 use Rattle.std.specs.Int.{int_max, int_min}
 use Rattle.moment_core.specs.Line.{position_of}
 use Rattle.moment_core.specs.Sets.{ahead}
@@ -13,6 +13,9 @@ use Rattle.frame_core.specs.declared.frames.Frame.{Frame}
 -- a frame's period is at least a second, and no longer than the calendar range
 abbrev pub IsPeriod : ℕ → Type 0
 IsPeriod n = (1 ≤ n) × (n ≤ WIDTH)
+
+abbrev pub HasPeriod : Option Frame → Type 0
+HasPeriod frame = IfSome frame (λ f. IsPeriod f.period)
 
 -- from `hi` upwards and from `lo` downwards, membership repeats after each period
 pub record Repeats (set : ℤ → Bool) (frame : Frame) : Type 0 where

@@ -8,5 +8,5 @@ mod periods;
 mod tests;
 
 pub use frames::{Frame, join, window};
-pub use laws::{frame_laws, period_laws};
+pub use laws::{frame_laws, period_laws, window_laws};
 pub use periods::rule_period;

@@ -2,7 +2,7 @@
 use Rattle.std.specs.Prelude.{◌≡◌, ◌<◌, ◌≤◌, ℕ, ◌==◌, ℤ, Bool, true, false, List, [], ◌∷◌, ◌++◌, length, take}
 use Rattle.std.specs.Int.{IsInRange}
 use Rattle.moment_core.specs.Line.{IsWorkingMoment}
-use Rattle.moment_text.specs.Literal.{literal_of, is_shaped, shaped_front}
+use Rattle.moment_text.specs.Literal.{form_of, has_form, literal_of, is_shaped, shaped_front}
 
 abbrev pub LiteralsAreShaped : Type 0
 LiteralsAreShaped = (t : ℤ) (absolute : Bool) → is_shaped (literal_of t absolute) ≡ true
@@ -34,3 +34,13 @@ abbrev pub ShapesEnd : Type 0
 ShapesEnd =
     (text rest : List ℕ) → is_shaped text ≡ true → begins_with_zone rest ≡ false
     → shaped_front (text ++ rest) ≡ length text
+
+-- a shaped text has one of the four forms
+abbrev pub ShapedTextsHaveForms : Type 0
+ShapedTextsHaveForms =
+    (text : List ℕ) → is_shaped text ≡ true
+    → (signed : Bool) × (absolute : Bool) × (has_form (form_of signed absolute) text ≡ true)
+
+-- a text is as long as the form that it has
+abbrev pub FormsTellLengths : Type 0
+FormsTellLengths = (form text : List ℕ) → has_form form text ≡ true → length text ≡ length form

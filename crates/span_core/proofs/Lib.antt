@@ -1,4 +1,3 @@
-pub mod Comparing
 pub mod Runs
 pub mod Searches
 pub mod Stretches

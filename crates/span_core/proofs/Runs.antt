@@ -1,17 +1,13 @@
 -- Runs and their bounds.
-use Rattle.std.proofs.Common.{◌≡◌, ◌↔◌, refl, sym, ◌∙◌, arith, ℤ, pos, negsuc, ◌+ℤ◌, ◌≤ℤ◌, true, false, ◌&&◌, int_le, if◌then◌else◌}
+use Rattle.std.proofs.Common.{◌≡◌, ◌↔◌, refl, sym, ◌∙◌, arith, ℤ, pos, ◌+ℤ◌, ◌≤ℤ◌, true, false, ◌&&◌, int_le, if◌then◌else◌}
 use Rattle.std.proofs.lemmas.Bool.{and_parts, and_from}
 use Rattle.std.proofs.lemmas.Int.{ints}
 use Rattle.std.specs.Ordering.{int_eq}
 use Rattle.moment_core.specs.Line.{moment_of, position_of}
 use Rattle.span_core.specs.Bounds.{ends_after, high_bound, is_moment, lies_between, low_bound, reaches}
 use Rattle.span_core.specs.declared.bounds.Bound.TheVariants.{Closed, Open}
-use Rattle.span_core.proofs.Comparing.{int_le-below, int_le-true, le-int_le}
-
--- a position is the moment at or before it, or the open second after that one
-pub halves : (p : ℤ) → (position_of (moment_of p) ≤ℤ p) × (p ≤ℤ (position_of (moment_of p) +ℤ pos 1))
-halves (pos n) = (omega (arith, ints), omega (arith, ints))
-halves (negsuc n) = (omega (arith, ints), omega (arith, ints))
+use Rattle.moment_core.proofs.LineLaws.{halves}
+use Rattle.moment_core.proofs.Comparing.{int_le-below, int_le-true, le-int_le}
 
 same_from_int_eq : (x y : ℤ) → int_eq x y ≡ true → x ≡ y
 same_from_int_eq x y e = grind (arith, ints)

@@ -1,5 +1,5 @@
 -- Every search has an answer, and one alone.
-use Rattle.std.proofs.Common.{◌≡◌, ◌⊎◌, inl, inr, ap, refl, sym, subst, ◌∙◌, arith, ℕ, zero, suc, ◌+◌, ◌≤◌, ℤ, ◌-ℤ◌, unsigned_abs, Bool, true, false, not, Option, Some, None}
+use Rattle.std.proofs.Common.{◌≡◌, ◌⊎◌, inl, inr, ap, refl, sym, subst, ◌∙◌, arith, ℕ, zero, suc, ◌≤◌, ℤ, ◌-ℤ◌, unsigned_abs, Bool, true, false, not, Option, Some, None}
 use Rattle.std.proofs.lemmas.Bool.{cases_order}
 use Rattle.std.proofs.lemmas.Int.{ints}
 use Rattle.moment_core.specs.Line.{IsCalendarPosition, position_of}
@@ -9,21 +9,10 @@ use Rattle.moment_core.specs.declared.line.Dir.TheVariants.{Fore, Back}
 use Rattle.moment_core.specs.declared.line.Pos.{Pos}
 use Rattle.moment_core.specs.declared.line.TheConstants.{LOW, HIGH}
 use Rattle.moment_core.specs.declared.line.Window.{Window}
+use Rattle.moment_core.proofs.LineLaws.{not_both, one_change, seen-zero}
 use Rattle.span_core.specs.Answers.{IsFound}
 use Rattle.span_core.specs.declared.answers.Answer.{Answer}
 use Rattle.span_core.specs.declared.answers.Answer.TheVariants.{At, None as Never, Edge, Budget}
-
--- no step, and so many steps and then so many more
-pub ahead-zero : (dir : Dir) (p : ℤ) → ahead dir p 0 ≡ p
-ahead-zero Fore p = omega (arith, ints)
-ahead-zero Back p = omega (arith, ints)
-
-pub ahead-ahead : (dir : Dir) (p : ℤ) (m n : ℕ) → ahead dir (ahead dir p m) n ≡ ahead dir p (m + n)
-ahead-ahead Fore p m n = omega (arith, ints)
-ahead-ahead Back p m n = omega (arith, ints)
-
-pub seen-zero : (set : ℤ → Bool) (dir : Dir) (p : ℤ) → seen set dir p 0 ≡ set p
-seen-zero set dir p = ap set (ahead-zero dir p)
 
 -- how many steps lead from p to the end of the calendar range
 abbrev pub steps_left : Dir → ℤ → ℕ
@@ -73,27 +62,11 @@ some_answer set window dir p h = elim (first_difference (seen set dir p) (steps_
   ]
 ]
 
-not_both : (x : Bool) → x ≡ not x → ⊥
-not_both true e = cc
-not_both false e = cc
-
--- the first step at which a test differs is one alone
-pub one_first : (f : ℕ → Bool) (m n : ℕ) → DiffersFirst f m → DiffersFirst f n → m ≡ n
-one_first f m n d e = elim (cases_order m n) [
-  | inl same ↦ same
-  | inr other ↦ elim other [
-    | inl below ↦ absurd (not_both (f 0) (sym (e.same m below) ∙ d.differs))
-    | inr above ↦ absurd (not_both (f 0) (sym (d.same n above) ∙ e.differs))
-  ]
-]
-
 abbrev pos_at : ℤ → Pos
 pos_at z = record { 0 = z }
 
-one_change : (set : ℤ → Bool) (dir : Dir) (p : ℤ) (q r : Pos) → IsNextChange set dir p q.0 → IsNextChange set dir p r.0 → q ≡ r
-one_change set dir p q r a b =
-    let same : a.0 ≡ b.0 = one_first (seen set dir p) a.0 b.0 a.2 b.2 in
-    ap pos_at (a.1 ∙ ap (ahead dir p) same ∙ sym b.1)
+same_change : (set : ℤ → Bool) (dir : Dir) (p : ℤ) (q r : Pos) → IsNextChange set dir p q.0 → IsNextChange set dir p r.0 → q ≡ r
+same_change set dir p q r a b = ap pos_at (one_change set dir p q.0 r.0 a b)
 
 -- a change in the range and none in it exclude each other
 pub change_or_none : (set : ℤ → Bool) (dir : Dir) (p q : ℤ) → IsNextChange set dir p q → IsCalendarPosition q → StaysInRange set dir p → ⊥
@@ -102,7 +75,7 @@ change_or_none set dir p q a within stays =
     not_both (seen set dir p 0) (seen-zero set dir p ∙ sym (stays a.0 (subst P a.1 within)) ∙ a.2.differs)
 
 pub one_answer : (set : ℤ → Bool) (window : Option Window) (dir : Dir) (p : ℤ) (a b : Answer) → IsFound set window dir p a → IsFound set window dir p b → a ≡ b
-one_answer set window dir p (At q) (At r) h k = ap At (one_change set dir p q r h.0 k.0)
+one_answer set window dir p (At q) (At r) h k = ap At (same_change set dir p q r h.0 k.0)
 one_answer set window dir p (At q) (Never w) h k = absurd (change_or_none set dir p q.0 h.0 h.1 k.0)
 one_answer set window dir p (At q) Edge h k = absurd (change_or_none set dir p q.0 h.0 h.1 k.0)
 one_answer set window dir p (Never w) (At r) h k = absurd (change_or_none set dir p r.0 k.0 k.1 h.0)

@@ -9,7 +9,7 @@ use Rattle.span_core.specs.Bounds.{IsGiven, IsOneStretch, IsSpan, ends_after, fi
 use Rattle.span_core.specs.declared.bounds.Bound.{Bound}
 use Rattle.span_core.specs.declared.bounds.Bound.TheVariants.{Closed, Open, Inf, Edge}
 use Rattle.span_core.specs.declared.stretch.Empty.{Empty}
-use Rattle.span_core.proofs.Comparing.{int_le-below, int_le-false, int_le-true, le-int_le, lt-int_le}
+use Rattle.moment_core.proofs.Comparing.{int_le-below, int_le-false, int_le-true, le-int_le, lt-int_le}
 
 -- where there is a first position, the positions from it on are those that a low bound reaches, else all are
 pub reaches-from : (low : Bound) (first : Pos) → first_from low ≡ Some first → (p : ℤ) → reaches low p ≡ int_le first.0 p

@@ -51,12 +51,13 @@ pub record StopsAt (set : ℤ → Bool) (candidates : ℤ → ℤ → ℕ) (wind
   pub within : (a : Answer) → IsFound set window dir p a → IsUpTo dir (end_of dir a) s.at.0
   pub used : budget ≤ counted_to candidates dir p n
 
--- the answer, or a stop that is due
-abbrev pub IsAnswer : (ℤ → Bool) → (ℤ → ℤ → ℕ) → Option Window → Dir → ℤ → ℕ → Answer → Type 0
-IsAnswer set candidates window dir p budget (Budget s) = (n : ℕ) × StopsAt set candidates window dir p budget s n
-IsAnswer set candidates window dir p budget (At q) = IsFound set window dir p (At q)
-IsAnswer set candidates window dir p budget (Never w) = IsFound set window dir p (Never w)
-IsAnswer set candidates window dir p budget Edge = IsFound set window dir p Edge
+-- the answer, or a stop that is due, where `due` says which stops are due in a direction, at a place, for a budget,
+-- and `window` gives the window for each direction and place
+abbrev pub IsAnswer : (ℤ → Bool) → (Dir → ℤ → ℕ → Stop → Type 0) → (Dir → ℤ → Option Window) → Dir → ℤ → ℕ → Answer → Type 0
+IsAnswer set due window dir p budget (Budget s) = due dir p budget s
+IsAnswer set due window dir p budget (At q) = IsFound set (window dir p) dir p (At q)
+IsAnswer set due window dir p budget (Never w) = IsFound set (window dir p) dir p (Never w)
+IsAnswer set due window dir p budget Edge = IsFound set (window dir p) dir p Edge
 
 -- the moments at or before the ends of a window are of the calendar range
 abbrev pub IsCalendarWindow : Window → Type 0

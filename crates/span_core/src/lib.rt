@@ -10,5 +10,5 @@ mod tests;
 
 pub use answers::{Answer, Audited, Extreme, Item, Near, Stop, Test, Token, Total, Vacant, Why};
 pub use bounds::{Bound, Run, run_of};
-pub use laws::answer_laws;
+pub use laws::{answer_laws, bound_laws};
 pub use stretch::{Empty, Span};

@@ -1,7 +1,7 @@
 ghost use Rattle.span_core.specs.Bounds.{IsGiven};
 
 use crate::{Bound, Empty, Run, Span, run_of};
-use moment_core::{Moment, Pos};
+use moment_core::{Moment, Pos, in_range};
 use std::test::Fail;
 
 /// A span from the moment 0 to `high`, and one from `low` to the moment 20.
@@ -99,4 +99,39 @@ fn runs_are_closed_at_moments_and_open_at_open_seconds(rt: HostRuntime) {
         last: open(4_611_686_018_427_387_904),
     };
     assert_eq!(rt; run_of(Pos(i64::MIN), Pos(i64::MAX)), whole);
+}
+
+/// The moments at which a span begins and ends, neither of them its own, or None where it goes on for ever.
+type Ends = (Option<i64>, Option<i64>);
+
+/// The open bound at a moment of the calendar range, or no bound.
+fn open_at(end: Option<i64>) -> Bound
+    ensures { IsGiven result }
+{
+    match end {
+        Some(t) if in_range(Moment(t)) => Bound::Open(Moment(t)),
+        _ => Bound::Inf,
+    }
+}
+
+#[test]
+fn spans_that_go_on_for_ever_meet_between_the_ends_that_are_given(
+    rt: HostRuntime,
+) -> Result<(), Fail> {
+    let rows: [(Ends, Ends, Option<Ends>); 7] = [
+        ((None, Some(10)), (Some(5), None), Some((Some(5), Some(10)))),
+        ((Some(5), None), (None, Some(10)), Some((Some(5), Some(10)))),
+        ((None, None), (None, Some(10)), Some((None, Some(10)))),
+        ((Some(5), None), (None, None), Some((Some(5), None))),
+        ((None, None), (None, None), Some((None, None))),
+        ((None, Some(6)), (Some(5), None), Some((Some(5), Some(6)))),
+        ((None, Some(5)), (Some(5), None), None),
+    ];
+    for (one, other, want) in rows {
+        let one = Span::new(open_at(one.0), open_at(one.1))?;
+        let other = Span::new(open_at(other.0), open_at(other.1))?;
+        let ends = one.meet(&other).map(|both| (both.low(), both.high()));
+        assert_eq!(rt; ends, want.map(|ends| (open_at(ends.0), open_at(ends.1))));
+    }
+    Ok(())
 }

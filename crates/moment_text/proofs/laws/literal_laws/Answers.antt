@@ -1,4 +1,5 @@
 use Rattle.moment_text.specs.Parts.{parts_of}
+use Rattle.moment_text.proofs.Fronts.{length_of, shape_of}
 use Rattle.moment_text.proofs.Moments.{text_of-parts_of, moments_apart}
 use Rattle.moment_text.proofs.Shapes.{shaped_text, width_of, longest_front, shapes_end}
 use Rattle.moment_text.proofs.laws.literal_laws.Goals as goal
@@ -17,3 +18,9 @@ returns-clause-longest c = longest_front
 
 pub returns-clause-end : goal.returns-clause-end
 returns-clause-end c = shapes_end
+
+pub returns-clause-form : goal.returns-clause-form
+returns-clause-form c = shape_of
+
+pub returns-clause-length : goal.returns-clause-length
+returns-clause-length c = length_of
