@@ -1,3 +1,4 @@
 pub mod LibraryDates
 pub mod LibraryWeeks
+pub mod NthDays
 pub mod WorkingDays

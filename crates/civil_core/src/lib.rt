@@ -1,14 +1,16 @@
-//! The date, time of day and week of a moment, and the moment of a date and a time of day.
+//! The date, time of day and week of a moment, and the moment of a date and a time of day or of the nth weekday of a month.
 //!
 //! The calendar is the proleptic Gregorian one, by the words and laws of `moment_core`; its dates are `jiff`'s.
 #![tactic(auto)]
 
 mod dates;
 mod from_fields;
+mod nth_days;
 mod parts;
 mod weeks;
 
 pub use from_fields::moment;
+pub use nth_days::nth_weekday;
 pub use parts::{CivilParts, fields};
 
 #[cfg(test)]

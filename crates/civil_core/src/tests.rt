@@ -1,4 +1,4 @@
-use crate::{CivilParts, fields};
+use crate::{CivilParts, fields, nth_weekday};
 use moment_core::{Moment, Weekday, in_work};
 use std::test::Fail;
 
@@ -326,4 +326,38 @@ fn moment_refuses_what_names_no_moment_of_the_working_range(rt: HostRuntime) {
         let found = crate::moment(year, month, day, hour, minute, second);
         assert!(rt; found.is_none(), "at {year} {month} {day}");
     }
+}
+
+// From python3's `calendar`, a year outside 1 to 9999 by the one that is a whole number of 400 years away; the last rows lie
+// at the ends of the working range.
+#[test]
+fn the_nth_weekday_of_a_month_agrees_with_another_calendar(rt: HostRuntime) -> Result<(), Fail> {
+    for (year, month, nth, day, want) in [
+        (2024, 2, 5, 4, Some(1_709_164_800)),
+        (2024, 2, -5, 4, Some(1_706_745_600)),
+        (2024, 2, 5, 5, None),
+        (2024, 2, -1, 3, Some(1_709_078_400)),
+        (2023, 2, 4, 2, Some(1_677_542_400)),
+        (2023, 2, -4, 2, Some(1_675_728_000)),
+        (2023, 2, 5, 2, None),
+        (2023, 2, -5, 2, None),
+        (1997, 9, 1, 5, Some(873_417_600)),
+        (1997, 9, -1, 1, Some(875_491_200)),
+        (2024, 11, 1, 7, Some(1_730_592_000)),
+        (2024, 1, -5, 3, Some(1_704_240_000)),
+        (0, 2, 5, 2, Some(-62_162_121_600)),
+        (-1, 6, -2, 7, Some(-62_184_067_200)),
+        (2024, 1, 0, 1, None),
+        (2024, 1, -128, 1, None),
+        (2024, 13, 1, 1, None),
+        (-9990, 1, 3, 6, None),
+        (-9990, 1, -2, 6, Some(-377_419_219_200)),
+        (9990, 12, 2, 7, Some(253_116_316_800)),
+        (9990, 12, 2, 1, None),
+    ] {
+        let day = Weekday::new(day).ok_or("no weekday")?;
+        let found = nth_weekday(year, month, nth, day);
+        assert_eq!(rt; found, want.map(|t| Moment(t)), "at {year} {month} {nth}");
+    }
+    Ok(())
 }
