@@ -1,0 +1,4 @@
+pub mod Checked
+pub mod Repeating
+pub mod Untils
+pub mod WeekStarts

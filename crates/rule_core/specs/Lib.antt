@@ -1,0 +1,10 @@
+pub mod Faults
+pub mod FieldChecks
+pub mod FieldMembers
+pub mod FieldRows
+pub mod IcalChecks
+pub mod IcalMembers
+pub mod IcalRows
+pub mod Laws
+pub mod Parts
+pub mod Values
