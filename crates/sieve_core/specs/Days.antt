@@ -1,9 +1,10 @@
 -- The test of days. Each table that isn't all zero is a test of its own.
-use Rattle.std.specs.Prelude.{ℕ, ◌+◌, ◌-◌, ◌/◌, Bool, ◌&&◌, ◌||◌, ◌==◌, if◌then◌else◌, List, [], ◌∷◌, slice_index_or, ℤ}
+use Rattle.std.specs.Prelude.{ℕ, ◌-◌, Bool, ◌&&◌, ◌||◌, ◌==◌, if◌then◌else◌, List, [], ◌∷◌, slice_index_or, ℤ}
 use Rattle.std.specs.List.{list_all}
-use Rattle.moment_core.specs.Calendar.{is_leap, year_len, month_len, year_of, days_into_year, month_of, day_of_month, weekday_of, week_year_of, week_of, weeks_in_year}
+use Rattle.moment_core.specs.Calendar.{month_of, day_of_month, weekday_of, week_year_of, week_of, weeks_in_year}
+use Rattle.moment_core.specs.Units.{year_len_of, month_len_of, day_of_year, nth_of, from_end}
 use Rattle.sieve_core.specs.declared.tables.DayTest.{DayTest}
-use Rattle.sieve_core.specs.Bits.{has_bit, is_zero, is_in_signed, from_end, meets_signed}
+use Rattle.sieve_core.specs.Bits.{has_bit, is_zero, is_in_signed, meets_signed}
 
 unfoldable pub meets_months : ℕ → ℤ → Bool
 meets_months months day = (months == 0) || has_bit (months ∷ []) (month_of day)
@@ -12,26 +13,11 @@ meets_months months day = (months == 0) || has_bit (months ∷ []) (month_of day
 unfoldable pub meets_weeks : List ℕ → ℕ → ℤ → Bool
 meets_weeks weeks first day = meets_signed weeks (weeks_in_year first (week_year_of first day)) (week_of first day)
 
--- the days of a day's year and of its month
-abbrev pub year_len_of : ℤ → ℕ
-year_len_of day = year_len (year_of day)
-
-abbrev pub month_len_of : ℤ → ℕ
-month_len_of day = month_len (is_leap (year_of day)) (month_of day)
-
--- the day of the year, from 1 on
-abbrev pub day_of_year : ℤ → ℕ
-day_of_year day = days_into_year day + 1
-
 unfoldable pub meets_year_days : List ℕ → ℤ → Bool
 meets_year_days days day = meets_signed days (year_len_of day) (day_of_year day)
 
 unfoldable pub meets_month_days : ℕ → ℤ → Bool
 meets_month_days days day = meets_signed (days ∷ []) (month_len_of day) (day_of_month day)
-
--- how many of the days 1 to v are of v's weekday
-abbrev pub nth_of : ℕ → ℕ
-nth_of v = (v - 1) / 7 + 1
 
 -- v of n days is the nth of its weekday, from the front or from the end, for an n of the weekday's signed table
 abbrev pub is_nth : List ℕ → ℕ → ℕ → Bool

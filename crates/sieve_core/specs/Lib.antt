@@ -1,5 +1,9 @@
 pub mod Bits
+pub mod Dates
 pub mod Days
-pub mod DaySieves
+pub mod Laws
 pub mod Members
-pub mod Units
+pub mod Nearest
+pub mod Ranks
+pub mod Sieves
+pub mod Times

@@ -1,15 +1,14 @@
 -- The candidates and the members of a sieve.
-use Rattle.std.specs.Prelude.{ℕ, zero, suc, ◌+◌, ◌*◌, Bool, ◌&&◌, ◌||◌, ◌==◌, if◌then◌else◌, [], ◌∷◌, ℤ, ◌-ℤ◌, int_le}
-use Rattle.std.specs.Ordering.{int_eq}
+use Rattle.std.specs.Prelude.{ℕ, Bool, ◌&&◌, ◌||◌, ◌==◌, [], ◌∷◌, ℤ, ◌-ℤ◌, int_le}
 use Rattle.moment_core.specs.declared.line.Dir.{Dir}
 use Rattle.moment_core.specs.declared.line.Dir.TheVariants.{Fore, Back}
 use Rattle.moment_core.specs.Calendar.{divides}
-use Rattle.moment_core.specs.Sets.{seen}
 use Rattle.moment_core.specs.TimeOfDay.{day_of, second_of_day, hour_of, minute_of, second_of}
 use Rattle.sieve_core.specs.declared.tables.Sieve.{Sieve}
 use Rattle.sieve_core.specs.Bits.{has_bit, is_zero, is_in_signed}
 use Rattle.sieve_core.specs.Days.{meets_days}
-use Rattle.sieve_core.specs.Units.{unit_of}
+use Rattle.moment_core.specs.Ranks.{counts_with, rank_in}
+use Rattle.moment_core.specs.Units.{unit_of}
 
 abbrev pub is_midnight : ℤ → Bool
 is_midnight t = second_of_day t == 0
@@ -33,24 +32,27 @@ meets_interval s t = divides s.interval (unit_of s.unit t -ℤ s.phase)
 
 -- u counts for the ranks of t's unit
 abbrev pub counts_for : Sieve → ℤ → ℤ → Bool
-counts_for s t u = int_eq (unit_of s.unit u) (unit_of s.unit t) && meets_tests s u
+counts_for s t u = counts_with s.unit (meets_tests s) t u
 
--- how many of the numbers below n pass a test
-unfoldable pub count_below : (ℕ → Bool) → ℕ → ℕ
-count_below f zero = 0
-count_below f (suc n) = count_below f n + (if f n then 1 else 0)
-
--- how many moments count that lie in t's unit from t on in the direction, t included: no unit has 54 weeks
-unfoldable pub rank_of : Sieve → Dir → ℤ → ℕ
-rank_of s dir t = count_below (seen (counts_for s t) dir t) (54 * 604_800)
+-- the rank of t in its unit, from the unit's first moment that meets the tests or from its last
+abbrev pub rank_of : Sieve → Dir → ℤ → ℕ
+rank_of s dir t = rank_in s.unit (meets_tests s) dir t
 
 -- the rank in the unit from its first moment, or from its last
 unfoldable pub meets_rank : Sieve → ℤ → Bool
 meets_rank s t = is_zero s.rank.0 || is_in_signed s.rank.0 (rank_of s Back t) (rank_of s Fore t)
 
+-- a place at which a search stops: a midnight, or a moment that meets the tests
+unfoldable pub is_mark : Sieve → ℤ → Bool
+is_mark s t = is_midnight t || meets_tests s t
+
 unfoldable pub is_candidate : Sieve → ℤ → Bool
-is_candidate s t = is_between s t && (is_midnight t || meets_tests s t)
+is_candidate s t = is_between s t && is_mark s t
+
+-- the tests, the interval and the rank, wherever the sieve's ends lie
+unfoldable pub meets_rule : Sieve → ℤ → Bool
+meets_rule s t = meets_tests s t && meets_interval s t && meets_rank s t
 
 -- the members
 unfoldable pub has : Sieve → ℤ → Bool
-has s t = is_between s t && meets_tests s t && meets_interval s t && meets_rank s t
+has s t = is_between s t && meets_rule s t

@@ -4,12 +4,18 @@
 
 mod bits;
 mod candidates;
-mod day_sieves;
+mod days;
+mod laws;
 mod members;
+mod ranks;
 mod tables;
+mod times;
+mod units;
 
-pub use moment_core::Step;
-pub use tables::{DayTest, RankSet, Sieve, Unit};
+pub use laws::sieve_laws;
+pub use moment_core::{Step, Unit};
+pub use tables::{DayTest, RankSet, Sieve};
+pub use units::number as unit_number;
 
 #[cfg(test)]
 mod tests;

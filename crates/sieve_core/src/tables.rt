@@ -1,17 +1,4 @@
-use moment_core::{Moment, Weekday};
-
-/// The units whose interval and whose ranks a sieve counts. Weeks and week-years begin on the weekday.
-#[derive(Clone, Copy, Debug, PartialEq, Eq)]
-pub enum Unit {
-    Year,
-    WeekYear(Weekday),
-    Month,
-    Week(Weekday),
-    Day,
-    Hour,
-    Minute,
-    Second,
-}
+use moment_core::{Moment, Unit, Weekday};
 
 /// A test of days by tables of bits.
 ///

@@ -1,31 +1,164 @@
-ghost use Rattle.std.specs.Prelude.{IfSome};
+ghost use Rattle.std.specs.Prelude.{◌≡◌, ◌<◌, true, IfSome};
+ghost use Rattle.std.specs.Int.{IsInRange};
 ghost use Rattle.moment_core.specs.Line.{IsWorkingMoment};
-ghost use Rattle.sieve_core.specs.DaySieves.{IsDaySieve};
+ghost use Rattle.moment_core.specs.Steps.{IsNextStep};
+ghost use Rattle.sieve_core.specs.Members.{has, is_candidate};
+ghost use Rattle.sieve_core.specs.Sieves.{IsSieve};
 
 use crate::*;
-use moment_core::{Moment, in_work};
+use moment_core::{Dir, HIGH, LOW, Moment, REACH, Weekday, in_work};
 
-const DAY_29: u64 = 1 << 29;
+// The hours, the minutes and the seconds of a sieve.
+type Times = (u32, u64, u64);
 
-const DAY_30: u64 = 1 << 30;
+const MIDNIGHT: Times = (1, 1, 1);
 
-const DAY_31: u64 = 1 << 31;
+const ALL_HOURS: u32 = 0xFF_FFFF;
 
-const LAST_DAY: u64 = 1 << 33;
+const ALL_SIXTY: u64 = 0xFFF_FFFF_FFFF_FFFF;
 
-fn midnight(day: i32) -> Moment {
-    Moment(i64::from(day) * 86_400)
+// An interval and a phase.
+const EACH: (u32, i64) = (1, 0);
+
+// No rank, and in the whole working range.
+fn timed(unit: Unit, turn: (u32, i64), days: DayTest, times: Times) -> Sieve {
+    Sieve {
+        unit,
+        interval: turn.0,
+        phase: turn.1,
+        days,
+        hours: times.0,
+        minutes: times.1,
+        seconds: times.2,
+        rank: RankSet([0; 12]),
+        first: Moment(LOW - REACH),
+        last: Moment(HIGH + REACH),
+    }
 }
 
-// The next member, where fewer than 100 candidates come before it.
-fn next_member(sieve: &Sieve, from: Moment) -> Option<Moment>
-    requires sieve { IsDaySieve sieve.now }
+fn midnights(unit: Unit, turn: (u32, i64), days: DayTest) -> Sieve {
+    timed(unit, turn, days, MIDNIGHT)
+}
+
+// In every unit the moments of these ranks.
+fn ranked(unit: Unit, days: DayTest, times: Times, rank: RankSet) -> Sieve {
+    Sieve {
+        rank,
+        ..timed(unit, EACH, days, times)
+    }
+}
+
+fn is_sieve(sieve: &Sieve) -> bool
+    ensures { result ≡ true → IsSieve sieve.now }
+{
+    sieve.interval >= 1 && LOW <= sieve.phase && sieve.phase <= HIGH
+}
+
+fn weekday(number: u8) -> Weekday
+    requires { IsInRange 1 7 number }
+{
+    Weekday::new(number).unwrap()
+}
+
+// A table of these two bits.
+fn table(a: usize, b: usize) -> [u64; 12]
+    requires a { a < 768 }
+    requires b { b < 768 }
+{
+    let mut words = [0; 12];
+    words[a / 64] |= 1 << (a % 64);
+    words[b / 64] |= 1 << (b % 64);
+    words
+}
+
+fn ranks(a: usize, b: usize) -> RankSet
+    requires a { a < 768 }
+    requires b { b < 768 }
+{
+    RankSet(table(a, b))
+}
+
+fn any_day() -> DayTest {
+    DayTest {
+        months: 0,
+        weeks: [0; 2],
+        first: weekday(1),
+        year_days: [0; 12],
+        month_days: 0,
+        week_days: 0,
+        nth: [[0; 2]; 7],
+        nth_in_month: true,
+    }
+}
+
+fn in_months(months: u16, month_days: u64) -> DayTest {
+    DayTest {
+        months,
+        month_days,
+        ..any_day()
+    }
+}
+
+fn in_weeks(first: u8, weeks: [u64; 2], week_days: u8) -> DayTest
+    requires { IsInRange 1 7 first }
+{
+    DayTest {
+        first: weekday(first),
+        weeks,
+        week_days,
+        ..any_day()
+    }
+}
+
+fn on_weekdays(week_days: u8) -> DayTest {
+    DayTest {
+        week_days,
+        ..any_day()
+    }
+}
+
+fn on_year_day(bit: usize) -> DayTest
+    requires { bit < 768 }
+{
+    DayTest {
+        year_days: table(bit, bit),
+        ..any_day()
+    }
+}
+
+fn on_nth(day: usize, bit: usize, in_month: bool) -> DayTest
+    requires day { IsInRange 1 7 day }
+    requires bit { bit < 128 }
+{
+    let mut nth = [[0; 2]; 7];
+    nth[day - 1][bit / 64] = 1 << (bit % 64);
+    DayTest {
+        nth,
+        nth_in_month: in_month,
+        ..any_day()
+    }
+}
+
+fn step(sieve: &Sieve, dir: Dir, t: Moment) -> Step
+    requires sieve { IsSieve sieve.now }
+    requires moment { IsWorkingMoment t.0 }
+    ensures { IsNextStep (has sieve.now) (is_candidate sieve.now) dir t.0 result }
+{
+    match dir {
+        Dir::Fore => sieve.after(t),
+        Dir::Back => sieve.before(t),
+    }
+}
+
+// The next member in the direction, where fewer than 4,000 candidates come before it.
+fn next_member(sieve: &Sieve, dir: Dir, from: Moment) -> Option<Moment>
+    requires sieve { IsSieve sieve.now }
     requires moment { IsWorkingMoment from.0 }
     ensures { IfSome result (λ t. IsWorkingMoment t.0) }
 {
     let mut at = from;
-    for _ in 0..100 {
-        match sieve.after(at) {
+    for _ in 0..4000 {
+        match step(sieve, dir, at) {
             Step::Hit(t) => return Some(t),
             Step::Pass(t) => at = t,
             Step::End => return None,
@@ -34,72 +167,474 @@ fn next_member(sieve: &Sieve, from: Moment) -> Option<Moment>
     None
 }
 
-// The expected days are those of python3's dates, counted from 1970-01-01; below the year 1 they are moved by 12,000
-// years, which are 30 times 146,097 days.
-#[test]
-fn a_walk_meets_the_days_of_each_month_in_order(rt: HostRuntime) {
-    for (table, from, days) in [
-        // after 1900-01-31
-        (DAY_29, -25_537, [-25_480, -25_449, -25_419]),
-        (DAY_30, -25_537, [-25_479, -25_448, -25_418]),
-        (DAY_31, -25_537, [-25_478, -25_417, -25_356]),
-        (LAST_DAY, -25_537, [-25_509, -25_478, -25_448]),
-        // after 2000-01-31
-        (DAY_29, 10_987, [11_016, 11_045, 11_076]),
-        (DAY_30, 10_987, [11_046, 11_077, 11_107]),
-        (DAY_31, 10_987, [11_047, 11_108, 11_169]),
-        (LAST_DAY, 10_987, [11_016, 11_047, 11_077]),
-        // after 2023-01-31
-        (DAY_29, 19_388, [19_445, 19_476, 19_506]),
-        (DAY_30, 19_388, [19_446, 19_477, 19_507]),
-        (DAY_31, 19_388, [19_447, 19_508, 19_569]),
-        (LAST_DAY, 19_388, [19_416, 19_447, 19_477]),
-        // after 2024-01-31
-        (DAY_29, 19_753, [19_782, 19_811, 19_842]),
-        (DAY_30, 19_753, [19_812, 19_843, 19_873]),
-        (DAY_31, 19_753, [19_813, 19_874, 19_935]),
-        (LAST_DAY, 19_753, [19_782, 19_813, 19_843]),
-        // after 2100-01-31
-        (DAY_29, 47_512, [47_569, 47_600, 47_630]),
-        (DAY_30, 47_512, [47_570, 47_601, 47_631]),
-        (DAY_31, 47_512, [47_571, 47_632, 47_693]),
-        (LAST_DAY, 47_512, [47_540, 47_571, 47_601]),
-        // after -9990-01-23, the first day of the working range
-        (DAY_29, -4_368_278, [-4_368_272, -4_368_213, -4_368_182]),
-        (DAY_30, -4_368_278, [-4_368_271, -4_368_212, -4_368_181]),
-        (DAY_31, -4_368_278, [-4_368_270, -4_368_211, -4_368_150]),
-        (LAST_DAY, -4_368_278, [-4_368_270, -4_368_242, -4_368_211]),
-    ] {
-        let mut at = midnight(from);
-        assert!(rt; table > 0 && in_work(at));
-        let sieve = Sieve::on_month_days(table);
-        for day in days {
-            let found = next_member(&sieve, at);
-            assert_eq!(rt;
-                found,
-                Some(midnight(day)),
-                "table {table} after day {from}"
-            );
-            if let Some(t) = found {
-                assert!(rt; sieve.test(t));
-                at = t;
-            }
+// The next three members in the direction.
+fn next_three(sieve: &Sieve, dir: Dir, from: Moment) -> [i64; 3]
+    requires sieve { IsSieve sieve.now }
+    requires moment { IsWorkingMoment from.0 }
+{
+    let mut found = [0; 3];
+    let mut at = from;
+    for i in 0..3usize {
+        if let Some(t) = next_member(sieve, dir, at) {
+            found[i] = t.0;
+            at = t;
         }
+    }
+    found
+}
+
+// Each row: a sieve, where a walk begins, the next three members after it and before it. The expected members are
+// found among all days by python3's dates, those outside the years 1 to 9999 moved by multiples of 400 years.
+#[test]
+fn walks_meet_the_members_of_each_unit_both_ways(rt: HostRuntime) {
+    for (sieve, from, after, before) in [
+        // every fourth year, 29 February
+        (
+            midnights(Unit::Year, (4, 2000), in_months(1 << 2, 1 << 29)),
+            -2_330_121_600,
+            [-2_077_747_200, -1_951_516_800, -1_825_286_400],
+            [-2_456_352_000, -2_582_582_400, -2_708_812_800],
+        ),
+        // every third year below the year 0, the last of June at noon
+        (
+            timed(
+                Unit::Year,
+                (3, -4),
+                in_months(1 << 6, 1 << 33),
+                (1 << 12, 1, 1),
+            ),
+            -62_277_768_000,
+            [-62_183_160_000, -62_088_465_600, -61_993_771_200],
+            [-62_372_462_400, -62_467_156_800, -62_561_851_200],
+        ),
+        // the last day of leap years, which is the 366th
+        (
+            midnights(Unit::Year, EACH, on_year_day(366)),
+            -2_293_228_800,
+            [-2_051_308_800, -1_925_078_400, -1_798_848_000],
+            [-2_303_683_200, -2_429_913_600, -2_556_144_000],
+        ),
+        // the first day of leap years, which is the 366th from the end
+        (
+            midnights(Unit::Year, EACH, on_year_day(750)),
+            -62_198_755_200,
+            [-62_167_219_200, -62_040_988_800, -61_914_758_400],
+            [-62_293_449_600, -62_419_680_000, -62_545_910_400],
+        ),
+        // the twentieth Monday of the year
+        (
+            midnights(Unit::Year, EACH, on_nth(1, 20, false)),
+            864_000_000,
+            [895_449_600, 926_899_200, 958_348_800],
+            [831_945_600, 800_496_000, 769_046_400],
+        ),
+        // the 53rd Sunday of the year from its end
+        (
+            midnights(Unit::Year, EACH, on_nth(7, 117, false)),
+            946_684_800,
+            [946_771_200, 1_136_073_600, 1_325_376_000],
+            [788_918_400, 599_616_000, 441_763_200],
+        ),
+        // weeks 53 from Monday on, on Thursdays
+        (
+            midnights(
+                Unit::WeekYear(weekday(1)),
+                EACH,
+                in_weeks(1, [1 << 53, 0], 1 << 4),
+            ),
+            1_609_372_800,
+            [1_798_675_200, 1_987_977_600, 2_145_830_400],
+            [1_451_520_000, 1_262_217_600, 1_104_364_800],
+        ),
+        // last weeks from Sunday on, on Saturdays
+        (
+            midnights(
+                Unit::WeekYear(weekday(7)),
+                EACH,
+                in_weeks(7, [0, 1 << 1], 1 << 6),
+            ),
+            -74_790_000_000,
+            [-74_758_550_400, -74_727_100_800, -74_695_651_200],
+            [-74_821_449_600, -74_852_899_200, -74_884_953_600],
+        ),
+        // every fifth week-year, Monday of week 1
+        (
+            midnights(
+                Unit::WeekYear(weekday(1)),
+                (5, 2020),
+                in_weeks(1, [1 << 1, 0], 1 << 1),
+            ),
+            1_577_664_000,
+            [1_735_516_800, 1_893_369_600, 2_051_222_400],
+            [1_419_811_200, 1_262_563_200, 1_104_710_400],
+        ),
+        // every fifth month, its last day
+        (
+            midnights(Unit::Month, (5, 24_289), in_months(0, 1 << 33)),
+            1_709_164_800,
+            [1_722_384_000, 1_735_603_200, 1_748_649_600],
+            [1_696_032_000, 1_682_812_800, 1_669_766_400],
+        ),
+        // every seventh month, on the 31st, below the year 0
+        (
+            midnights(Unit::Month, (7, -108_000), in_months(0, 1 << 31)),
+            -346_177_152_000,
+            [-346_158_835_200, -346_140_518_400, -346_122_028_800],
+            [-346_287_657_600, -346_306_060_800, -346_324_550_400],
+        ),
+        // the last Friday of the month
+        (
+            midnights(Unit::Month, EACH, on_nth(5, 65, true)),
+            1_703_808_000,
+            [1_706_227_200, 1_708_646_400, 1_711_670_400],
+            [1_700_784_000, 1_698_364_800, 1_695_945_600],
+        ),
+        // the second Tuesday of the month, and each Sunday
+        (
+            midnights(
+                Unit::Month,
+                EACH,
+                DayTest {
+                    week_days: 1 << 7,
+                    ..on_nth(2, 2, true)
+                },
+            ),
+            1_707_782_400,
+            [1_708_214_400, 1_708_819_200, 1_709_424_000],
+            [1_707_609_600, 1_707_004_800, 1_706_400_000],
+        ),
+        // Friday the thirteenth
+        (
+            midnights(
+                Unit::Month,
+                EACH,
+                DayTest {
+                    month_days: 1 << 13,
+                    ..on_weekdays(1 << 5)
+                },
+            ),
+            1_726_185_600,
+            [1_734_048_000, 1_749_772_800, 1_770_940_800],
+            [1_697_155_200, 1_673_568_000, 1_652_400_000],
+        ),
+        // every second week from Monday on, Tuesday and Sunday
+        (
+            timed(
+                Unit::Week(weekday(1)),
+                (2, 1440),
+                on_weekdays(0b10000100),
+                (1 << 9, 1, 1),
+            ),
+            871_203_600,
+            [871_376_400, 871_808_400, 872_586_000],
+            [870_598_800, 870_166_800, 869_389_200],
+        ),
+        // every second week from Sunday on, Tuesday and Sunday
+        (
+            timed(
+                Unit::Week(weekday(7)),
+                (2, 1439),
+                on_weekdays(0b10000100),
+                (1 << 9, 1, 1),
+            ),
+            871_808_400,
+            [871_981_200, 873_018_000, 873_190_800],
+            [870_771_600, 870_598_800, 869_562_000],
+        ),
+        // every third day at 09:30, before the first day of all
+        (
+            timed(Unit::Day, (3, 2), any_day(), (1 << 9, 1 << 30, 1)),
+            -43_200,
+            [207_000, 466_200, 725_400],
+            [-52_200, -311_400, -570_600],
+        ),
+        // every fifth hour at half past
+        (
+            timed(Unit::Hour, (5, -7), any_day(), (ALL_HOURS, 1 << 30, 1)),
+            -1800,
+            [12_600, 30_600, 48_600],
+            [-5400, -23_400, -41_400],
+        ),
+        // every 90th minute, 15 seconds past it, in April
+        (
+            timed(
+                Unit::Minute,
+                (90, 0),
+                in_months(1 << 4, 0),
+                (ALL_HOURS, ALL_SIXTY, 1 << 15),
+            ),
+            1_711_929_600,
+            [1_711_929_615, 1_711_935_015, 1_711_940_415],
+            [1_682_893_815, 1_682_888_415, 1_682_883_015],
+        ),
+        // every twentieth minute from 9 to 16
+        (
+            timed(Unit::Minute, (20, 0), any_day(), (0xFF << 9, ALL_SIXTY, 1)),
+            873_218_400,
+            [873_277_200, 873_278_400, 873_279_600],
+            [873_217_200, 873_216_000, 873_214_800],
+        ),
+        // every seventh second of a minute a day, below the year 0
+        (
+            timed(
+                Unit::Second,
+                (7, 3),
+                any_day(),
+                (1 << 23, 1 << 59, ALL_SIXTY),
+            ),
+            -62_167_219_205,
+            [-62_167_219_202, -62_167_132_857, -62_167_132_850],
+            [-62_167_219_209, -62_167_219_216, -62_167_219_223],
+        ),
+        // the last workday but one of the month
+        (
+            ranked(
+                Unit::Month,
+                on_weekdays(0b111110),
+                (1 << 9, 1, 1),
+                ranks(386, 386),
+            ),
+            875_523_600,
+            [878_202_000, 880_621_200, 883_472_400],
+            [872_758_800, 870_253_200, 867_402_000],
+        ),
+        // the hundredth workday of the year
+        (
+            ranked(Unit::Year, on_weekdays(0b111110), MIDNIGHT, ranks(100, 100)),
+            -62_469_705_600,
+            [-62_439_206_400, -62_407_670_400, -62_376_048_000],
+            [-62_470_915_200, -62_502_364_800, -62_533_900_800],
+        ),
+        // the second time of a week from Wednesday on
+        (
+            ranked(
+                Unit::Week(weekday(3)),
+                any_day(),
+                (1 << 8 | 1 << 20, 1 << 0 | 1 << 30, 1),
+                ranks(2, 2),
+            ),
+            1_704_270_600,
+            [1_704_875_400, 1_705_480_200, 1_706_085_000],
+            [1_703_665_800, 1_703_061_000, 1_702_456_200],
+        ),
+        // the last but two of the times of a day
+        (
+            ranked(
+                Unit::Day,
+                any_day(),
+                (1 << 1 | 1 << 5 | 1 << 21, 1 << 10 | 1 << 20, 1),
+                ranks(387, 387),
+            ),
+            -62_162_035_200,
+            [-62_162_016_000, -62_161_929_600, -62_161_843_200],
+            [-62_162_102_400, -62_162_188_800, -62_162_275_200],
+        ),
+        // the first met second of an hour
+        (
+            ranked(
+                Unit::Hour,
+                any_day(),
+                (ALL_HOURS, 0b11 << 58, 0b11 << 58),
+                ranks(1, 1),
+            ),
+            946_684_738,
+            [946_688_338, 946_691_938, 946_695_538],
+            [946_681_138, 946_677_538, 946_673_938],
+        ),
+        // days 100 and -1 of the week-years from Sunday on
+        (
+            ranked(
+                Unit::WeekYear(weekday(7)),
+                any_day(),
+                MIDNIGHT,
+                ranks(100, 385),
+            ),
+            1_451_606_400,
+            [1_451_692_800, 1_460_332_800, 1_483_142_400],
+            [1_428_883_200, 1_420_243_200, 1_396_828_800],
+        ),
+    ] {
+        let from = Moment(from);
+        assert!(rt; is_sieve(&sieve));
+        assert!(rt; in_work(from));
+        assert_eq!(rt;
+            next_three(&sieve, Dir::Fore, from),
+            after,
+            "after {from:?}"
+        );
+        assert_eq!(rt;
+            next_three(&sieve, Dir::Back, from),
+            before,
+            "before {from:?}"
+        );
     }
 }
 
-// The working range ends with 9990-12-09T23:59:59, by python3's dates too.
+// The working range runs from -9990-01-23T00:00:00 to 9990-12-09T23:59:59. Each row: a sieve, its first and its last
+// member, by python3's dates.
 #[test]
-fn a_walk_ends_at_the_last_midnight_of_the_working_range(rt: HostRuntime) {
-    for (day_of_month, last) in [
-        (9, 253_116_316_800),
-        (29, 253_115_452_800),
-        (30, 253_115_539_200),
-        (31, 253_112_947_200),
+fn walks_end_with_the_working_range(rt: HostRuntime) {
+    let bottom = Moment(LOW - REACH);
+    let top = Moment(HIGH + REACH);
+    for (sieve, first, last) in [
+        // every fourth year, 29 February: -9988-02-29T00:00:00, 9988-02-29T00:00:00
+        (
+            midnights(Unit::Year, (4, 0), in_months(1 << 2, 1 << 29)),
+            -377_352_950_400,
+            253_028_707_200,
+        ),
+        // the last day of each month: -9990-01-31T00:00:00, 9990-11-30T00:00:00
+        (
+            midnights(Unit::Month, EACH, in_months(0, 1 << 33)),
+            -377_418_528_000,
+            253_115_539_200,
+        ),
+        // every second week from Monday on, the last second of Thursday: -9990-01-28T23:59:59, 9990-11-29T23:59:59
+        (
+            timed(
+                Unit::Week(weekday(1)),
+                (2, 0),
+                on_weekdays(1 << 4),
+                (1 << 23, 1 << 59, 1 << 59),
+            ),
+            -377_418_700_801,
+            253_115_539_199,
+        ),
+        // weeks 53 from Sunday on, on Saturdays: -9985-01-03T00:00:00, 9987-01-03T00:00:00
+        (
+            midnights(
+                Unit::WeekYear(weekday(7)),
+                EACH,
+                in_weeks(7, [1 << 53, 0], 1 << 6),
+            ),
+            -377_263_180_800,
+            252_992_246_400,
+        ),
+        // every fifth hour at half past: -9990-01-23T02:30:00, 9990-12-09T22:30:00
+        (
+            timed(Unit::Hour, (5, 0), any_day(), (ALL_HOURS, 1 << 30, 1)),
+            -377_419_210_200,
+            253_116_397_800,
+        ),
+        // the last time of each day: -9990-01-23T17:00:00, 9990-12-09T17:00:00
+        (
+            ranked(
+                Unit::Day,
+                any_day(),
+                (1 << 9 | 1 << 17, 1, 1),
+                ranks(385, 385),
+            ),
+            -377_419_158_000,
+            253_116_378_000,
+        ),
+        // the last day of the year by rank: -9990-12-31T00:00:00, 9989-12-31T00:00:00
+        (
+            ranked(Unit::Year, any_day(), MIDNIGHT, ranks(385, 385)),
+            -377_389_670_400,
+            253_086_681_600,
+        ),
+        // the hundredth day by rank: -9990-04-10T00:00:00, 9990-04-10T00:00:00
+        (
+            ranked(Unit::Year, any_day(), MIDNIGHT, ranks(100, 100)),
+            -377_412_566_400,
+            253_095_321_600,
+        ),
+        // every seventh second: -9990-01-23T00:00:02, 9990-12-09T23:59:57
+        (
+            timed(
+                Unit::Second,
+                (7, 0),
+                any_day(),
+                (ALL_HOURS, ALL_SIXTY, ALL_SIXTY),
+            ),
+            -377_419_219_198,
+            253_116_403_197,
+        ),
     ] {
-        let sieve = Sieve::on_month_day(day_of_month);
-        assert_eq!(rt; next_member(&sieve, Moment(last - 1)), Some(Moment(last)));
-        assert_eq!(rt; next_member(&sieve, Moment(last)), None, "after {last}");
-        assert!(rt; !sieve.test(Moment(last + 1)), "after {last}");
+        let (first, last) = (Moment(first), Moment(last));
+        assert!(rt; is_sieve(&sieve));
+        assert!(rt; in_work(first));
+        assert!(rt; in_work(last));
+        assert!(rt; sieve.test(first) && sieve.test(last));
+        assert_eq!(rt; next_member(&sieve, Dir::Fore, bottom), Some(first));
+        assert_eq!(rt;
+            next_member(&sieve, Dir::Back, first),
+            None,
+            "before {first:?}"
+        );
+        assert_eq!(rt; next_member(&sieve, Dir::Back, top), Some(last));
+        assert_eq!(rt;
+            next_member(&sieve, Dir::Fore, last),
+            None,
+            "after {last:?}"
+        );
+    }
+}
+
+// On the 13th of months, in these hours.
+fn thirteenths(turn: (u32, i64), hours: u32) -> Sieve {
+    timed(Unit::Month, turn, in_months(0, 1 << 13), (hours, 1, 1))
+}
+
+// From 2024-01-13T09:00:00 to 2024-02-13.
+fn short() -> Sieve {
+    Sieve {
+        first: Moment(1_705_136_400),
+        last: Moment(1_707_782_400),
+        ..thirteenths(EACH, 1 << 9)
+    }
+}
+
+// On the 13th of January 2024 at 09:00: midnights are passed, and so is a time that the interval leaves out.
+#[test]
+fn steps_stop_at_midnights_and_at_times_that_are_met(rt: HostRuntime) {
+    for (sieve, t, after, before) in [
+        // 12 January, 10:00
+        (
+            thirteenths(EACH, 1 << 9),
+            1_705_053_600,
+            Step::Pass(Moment(1_705_104_000)),
+            Step::Pass(Moment(1_705_017_600)),
+        ),
+        // 13 January, midnight
+        (
+            thirteenths(EACH, 1 << 9),
+            1_705_104_000,
+            Step::Hit(Moment(1_705_136_400)),
+            Step::Pass(Moment(1_705_017_600)),
+        ),
+        (
+            thirteenths((2, 1), 1 << 9),
+            1_705_104_000,
+            Step::Pass(Moment(1_705_136_400)),
+            Step::Pass(Moment(1_705_017_600)),
+        ),
+        (
+            thirteenths(EACH, 0),
+            1_705_104_000,
+            Step::Pass(Moment(1_705_190_400)),
+            Step::Pass(Moment(1_705_017_600)),
+        ),
+        // 14 January, midnight
+        (
+            thirteenths(EACH, 1 << 9),
+            1_705_190_400,
+            Step::Pass(Moment(1_705_276_800)),
+            Step::Hit(Moment(1_705_136_400)),
+        ),
+        // before the first moment and after the last one
+        (short(), 0, Step::Hit(Moment(1_705_136_400)), Step::End),
+        (
+            short(),
+            1_709_251_200,
+            Step::End,
+            Step::Pass(Moment(1_707_782_400)),
+        ),
+    ] {
+        let t = Moment(t);
+        assert!(rt; is_sieve(&sieve));
+        assert!(rt; in_work(t));
+        assert_eq!(rt; sieve.after(t), after, "after {t:?}");
+        assert_eq!(rt; sieve.before(t), before, "before {t:?}");
     }
 }
