@@ -1,1 +1,3 @@
 pub mod ListParts
+mod Once
+pub mod RecurrenceLemmas

@@ -1,1 +1,4 @@
+pub mod Laws
+pub mod Meanings
 pub mod Names
+pub mod Recurrences
