@@ -1,0 +1,5 @@
+mod Checks
+mod FieldMeanings
+mod Repeating
+pub mod RuleLaws
+mod TestLemmas

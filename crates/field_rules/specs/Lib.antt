@@ -1,0 +1,5 @@
+pub mod Laws
+pub mod Leaves
+pub mod Lowered
+pub mod Rules
+pub mod Tested

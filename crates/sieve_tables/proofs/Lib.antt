@@ -1,0 +1,6 @@
+pub mod Filled
+pub mod MaskLemmas
+pub mod Members
+pub mod SetBits
+pub mod TableLemmas
+pub mod WeekdayLemmas

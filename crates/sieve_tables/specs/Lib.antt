@@ -1,0 +1,3 @@
+pub mod Laws
+pub mod Lowered
+pub mod Masks
