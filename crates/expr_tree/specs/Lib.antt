@@ -1,3 +1,5 @@
+pub mod Laws
+pub mod Lists
 pub mod Members
 pub mod Sorts
 pub mod Tree

@@ -2,10 +2,12 @@
 use Rattle.std.specs.Prelude.{ℕ, ◌+◌, max, nat_lt, List, [], ◌∷◌, Option, Some, None, Result, Ok, Err, if◌then◌else◌, pos, int_lt}
 use Rattle.moment_core.specs.Clocks.{clock_of_stamp, one_clock}
 use Rattle.moment_core.specs.declared.line.Clock.{Clock}
-use Rattle.moment_core.specs.declared.line.Clock.TheVariants.{Any}
+use Rattle.moment_core.specs.declared.line.Clock.TheVariants.{Any, Floating}
 use Rattle.moment_core.specs.declared.line.Stamp.{Stamp}
 use Rattle.moment_core.specs.declared.line.TheConstants.{REACH}
-use Rattle.expr_tree.specs.Tree.{Tree, Empty, Listed, Spanned, Union, Meet, Minus, Not}
+use Rattle.moment_core.specs.declared.joining.Op.{Op}
+use Rattle.moment_core.specs.declared.joining.Op.TheVariants.{Union, Meet, Minus}
+use Rattle.expr_tree.specs.Tree.{Rule, Listed, Field, Tree, Empty, Spanned, Ruled, Joined, Not}
 use Rattle.expr_tree.specs.declared.tree.Kind.{Kind}
 use Rattle.expr_tree.specs.declared.tree.Kind.TheVariants.{Moments, Spans}
 use Rattle.expr_tree.specs.declared.sorting.Judged.{Judged}
@@ -14,32 +16,26 @@ use Rattle.expr_tree.specs.declared.sorting.SortFault.{SortFault}
 use Rattle.expr_tree.specs.declared.sorting.SortFault.TheVariants as faults
 
 -- how many nodes a tree has, and the longest path from its root
-abbrev pub nodes_of : Tree → ℕ
+abbrev pub nodes_of : Tree Rule → ℕ
 nodes_of Empty = 1
-nodes_of (Listed stamps) = 1
 nodes_of (Spanned bounds low high) = 1
-nodes_of (Union a b) = 1 + nodes_of a + nodes_of b
-nodes_of (Meet a b) = 1 + nodes_of a + nodes_of b
-nodes_of (Minus a b) = 1 + nodes_of a + nodes_of b
+nodes_of (Ruled rule) = 1
+nodes_of (Joined op a b) = 1 + nodes_of a + nodes_of b
 nodes_of (Not a) = 1 + nodes_of a
 
-abbrev pub depth_of : Tree → ℕ
+abbrev pub depth_of : Tree Rule → ℕ
 depth_of Empty = 1
-depth_of (Listed stamps) = 1
 depth_of (Spanned bounds low high) = 1
-depth_of (Union a b) = 1 + max (depth_of a) (depth_of b)
-depth_of (Meet a b) = 1 + max (depth_of a) (depth_of b)
-depth_of (Minus a b) = 1 + max (depth_of a) (depth_of b)
+depth_of (Ruled rule) = 1
+depth_of (Joined op a b) = 1 + max (depth_of a) (depth_of b)
 depth_of (Not a) = 1 + depth_of a
 
 -- how far membership at a position looks from there, in seconds, along some path
-abbrev pub reach_of : Tree → ℕ
+abbrev pub reach_of : {R : Type 0} → Tree R → ℕ
 reach_of Empty = 0
-reach_of (Listed stamps) = 0
 reach_of (Spanned bounds low high) = 0
-reach_of (Union a b) = max (reach_of a) (reach_of b)
-reach_of (Meet a b) = max (reach_of a) (reach_of b)
-reach_of (Minus a b) = max (reach_of a) (reach_of b)
+reach_of (Ruled rule) = 0
+reach_of (Joined op a b) = max (reach_of a) (reach_of b)
 reach_of (Not a) = reach_of a
 
 -- the one clock of both, if there is one of the first
@@ -56,6 +52,11 @@ clock_with clock (stamp ∷ stamps) = clock_with (one_clock_if clock (clock_of_s
 abbrev pub clock_of_stamps : List Stamp → Option Clock
 clock_of_stamps stamps = clock_with (Some Any) stamps
 
+-- the clock of a rule's start, floating where none is given
+abbrev pub clock_of_start : Option Stamp → Clock
+clock_of_start (Some stamp) = clock_of_stamp stamp
+clock_of_start None = Floating
+
 -- a set of moments and spans is one of spans
 abbrev pub either_kind : Kind → Kind → Kind
 either_kind Moments Moments = Moments
@@ -70,24 +71,29 @@ abbrev pub with_clock : Kind → Option Clock → Result Judged SortFault
 with_clock kind (Some clock) = Ok (record { kind = kind; clock = clock })
 with_clock kind None = Err faults.Clock
 
+-- the kind of what joins two sets
+abbrev pub joined_kind : Op → Kind → Kind → Kind
+joined_kind Union a b = either_kind a b
+joined_kind Meet a b = both_kind a b
+joined_kind Minus a b = a
+
 -- the kind and the clock of what joins two sets, of which the first one's fault comes first
-abbrev pub join_judged : (Kind → Kind → Kind) → Result Judged SortFault → Result Judged SortFault → Result Judged SortFault
-join_judged kind (Err fault) b = Err fault
-join_judged kind (Ok a) (Err fault) = Err fault
-join_judged kind (Ok a) (Ok b) = with_clock (kind a.kind b.kind) (one_clock a.clock b.clock)
+abbrev pub join_judged : Op → Result Judged SortFault → Result Judged SortFault → Result Judged SortFault
+join_judged op (Err fault) b = Err fault
+join_judged op (Ok a) (Err fault) = Err fault
+join_judged op (Ok a) (Ok b) = with_clock (joined_kind op a.kind b.kind) (one_clock a.clock b.clock)
 
 abbrev pub invert_judged : Result Judged SortFault → Result Judged SortFault
 invert_judged (Err fault) = Err fault
 invert_judged (Ok a) = Ok (record { kind = Spans; clock = a.clock })
 
 -- the kind and the clock of a tree, or the fault of the first node that has one: children first, left before right
-abbrev pub judge : Tree → Result Judged SortFault
+abbrev pub judge : Tree Rule → Result Judged SortFault
 judge Empty = Ok (record { kind = Moments; clock = Any })
-judge (Listed stamps) = with_clock Moments (clock_of_stamps stamps)
+judge (Ruled (Listed stamps)) = with_clock Moments (clock_of_stamps stamps)
 judge (Spanned bounds low high) = with_clock Spans (one_clock low high)
-judge (Union a b) = join_judged either_kind (judge a) (judge b)
-judge (Meet a b) = join_judged both_kind (judge a) (judge b)
-judge (Minus a b) = join_judged (λ x y. x) (judge a) (judge b)
+judge (Ruled (Field rule)) = Ok (record { kind = Moments; clock = clock_of_start rule.start })
+judge (Joined op a b) = join_judged op (judge a) (judge b)
 judge (Not a) = invert_judged (judge a)
 
 -- the most nodes that a tree may have, and the most that a path from its root may have
@@ -97,14 +103,14 @@ node_limit = 1024
 abbrev pub path_limit : ℕ
 path_limit = 128
 
-abbrev pub sort_with : Tree → Result Judged SortFault → Result Sort SortFault
+abbrev pub sort_with : Tree Rule → Result Judged SortFault → Result Sort SortFault
 sort_with t (Err fault) = Err fault
 sort_with t (Ok judged) =
     if int_lt REACH (pos (reach_of t)) then Err faults.Reach
     else Ok (record { kind = judged.kind; clock = judged.clock; reach = pos (reach_of t); depth = depth_of t; nodes = nodes_of t })
 
 -- the sort, or the first fault: too many nodes, too deep, a node's own, too far
-abbrev pub sort_of_tree : Tree → Result Sort SortFault
+abbrev pub sort_of_tree : Tree Rule → Result Sort SortFault
 sort_of_tree t =
     if nat_lt node_limit (nodes_of t) then Err faults.Nodes
     else if nat_lt path_limit (depth_of t) then Err faults.Depth

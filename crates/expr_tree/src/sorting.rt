@@ -1,9 +1,9 @@
-ghost use Rattle.std.specs.Prelude.{◌≡◌, ◌<◌, ◌≤◌, ◌^◌, Some, None, nat_le, pos, if◌then◌else◌};
-ghost use Rattle.expr_tree.specs.Sorts.{both_kind, clock_of_stamps, depth_of, either_kind, judge, nodes_of, reach_of, sort_of_tree, with_clock};
+ghost use Rattle.std.specs.Prelude.{◌≡◌, ◌<◌, ◌≤◌, ◌^◌, Some, None, Ok, nat_le, pos, if◌then◌else◌};
+ghost use Rattle.expr_tree.specs.Sorts.{both_kind, clock_of_stamps, clock_of_start, depth_of, either_kind, join_judged, joined_kind, judge, nodes_of, reach_of, sort_of_tree, with_clock};
 ghost use Rattle.expr_tree.specs.Tree.{tree_of};
 
 use crate::tree::{Expr, Kind};
-use moment_core::{Clock, REACH, Stamp};
+use moment_core::{Clock, Op, REACH, Stamp};
 use std::cmp::max;
 use stored_pair::Book;
 use thiserror::Error;
@@ -74,14 +74,15 @@ pub fn sort_of(e: &Expr, _book: &Book) -> Result<Sort, SortFault>
 
 /// How many nodes the tree has, or None where they are more than the limit.
 fn nodes_within(e: &Expr, limit: u32) -> Option<u32>
-    ensures { result ≡ (if nat_le (nodes_of (tree_of e.now)) limit then Some (nodes_of (tree_of e.now)) else None) }
+    ensures { result ≡ (if nat_le (nodes_of (tree_of e.now)) limit
+        then Some (nodes_of (tree_of e.now)) else None) }
 {
     if limit == 0 {
         return None;
     }
     let below = limit - 1;
     match e {
-        Expr::Empty | Expr::List(_) | Expr::Span(_, _, _) => Some(1),
+        Expr::Empty | Expr::List(_) | Expr::Span(_, _, _) | Expr::Field(_) => Some(1),
         Expr::Union(a, b) | Expr::Meet(a, b) | Expr::Minus(a, b) => {
             let left = nodes_within(a, below)?;
             let right = nodes_within(b, below - left)?;
@@ -93,14 +94,15 @@ fn nodes_within(e: &Expr, limit: u32) -> Option<u32>
 
 /// How many nodes the longest path has, or None where they are more than the limit.
 fn depth_within(e: &Expr, limit: u32) -> Option<u32>
-    ensures { result ≡ (if nat_le (depth_of (tree_of e.now)) limit then Some (depth_of (tree_of e.now)) else None) }
+    ensures { result ≡ (if nat_le (depth_of (tree_of e.now)) limit
+        then Some (depth_of (tree_of e.now)) else None) }
 {
     if limit == 0 {
         return None;
     }
     let below = limit - 1;
     match e {
-        Expr::Empty | Expr::List(_) | Expr::Span(_, _, _) => Some(1),
+        Expr::Empty | Expr::List(_) | Expr::Span(_, _, _) | Expr::Field(_) => Some(1),
         Expr::Union(a, b) | Expr::Meet(a, b) | Expr::Minus(a, b) => {
             let left = depth_within(a, below)?;
             let right = depth_within(b, below)?;
@@ -115,7 +117,7 @@ fn reach(e: &Expr) -> i64
     ensures { result ≡ pos (reach_of (tree_of e.now)) }
 {
     match e {
-        Expr::Empty | Expr::List(_) | Expr::Span(_, _, _) => 0,
+        Expr::Empty | Expr::List(_) | Expr::Span(_, _, _) | Expr::Field(_) => 0,
         Expr::Union(a, b) | Expr::Meet(a, b) | Expr::Minus(a, b) => max(reach(a), reach(b)),
         Expr::Not(a) => reach(a),
     }
@@ -132,22 +134,35 @@ fn judge_tree(e: &Expr) -> Result<Judged, SortFault>
         }),
         Expr::List(stamps) => with_clock(Kind::Moments, clock_of_stamps(stamps.items())),
         Expr::Span(_, low, high) => with_clock(Kind::Spans, low.common(*high)),
-        Expr::Union(a, b) => {
-            let (a, b) = (judge_tree(a)?, judge_tree(b)?);
-            with_clock(either_kind(a.kind, b.kind), a.clock.common(b.clock))
-        }
-        Expr::Meet(a, b) => {
-            let (a, b) = (judge_tree(a)?, judge_tree(b)?);
-            with_clock(both_kind(a.kind, b.kind), a.clock.common(b.clock))
-        }
-        Expr::Minus(a, b) => {
-            let (a, b) = (judge_tree(a)?, judge_tree(b)?);
-            with_clock(a.kind, a.clock.common(b.clock))
-        }
+        Expr::Field(rule) => Ok(Judged {
+            kind: Kind::Moments,
+            clock: clock_of_start(rule.start),
+        }),
+        Expr::Union(a, b) => join_judged(Op::Union, judge_tree(a)?, judge_tree(b)?),
+        Expr::Meet(a, b) => join_judged(Op::Meet, judge_tree(a)?, judge_tree(b)?),
+        Expr::Minus(a, b) => join_judged(Op::Minus, judge_tree(a)?, judge_tree(b)?),
         Expr::Not(a) => Ok(Judged {
             kind: Kind::Spans,
             clock: judge_tree(a)?.clock,
         }),
+    }
+}
+
+/// The kind and the clock of what joins two sets.
+fn join_judged(op: Op, a: Judged, b: Judged) -> Result<Judged, SortFault>
+    ensures { result ≡ join_judged op (Ok a) (Ok b) }
+{
+    with_clock(joined_kind(op, a.kind, b.kind), a.clock.common(b.clock))
+}
+
+/// The kind of what joins two sets.
+fn joined_kind(op: Op, a: Kind, b: Kind) -> Kind
+    ensures { result ≡ joined_kind op a b }
+{
+    match op {
+        Op::Union => either_kind(a, b),
+        Op::Meet => both_kind(a, b),
+        Op::Minus => a,
     }
 }
 
@@ -169,6 +184,16 @@ fn clock_of_stamps(stamps: &[Stamp]) -> Option<Clock>
         clock = clock.common(stamp.clock())?;
     }
     Some(clock)
+}
+
+/// The clock of a rule's start, floating where none is given.
+fn clock_of_start(start: Option<Stamp>) -> Clock
+    ensures { result ≡ clock_of_start start }
+{
+    match start {
+        Some(stamp) => stamp.clock(),
+        None => Clock::Floating,
+    }
 }
 
 /// The kind of what either set has.

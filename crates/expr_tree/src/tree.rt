@@ -1,5 +1,6 @@
 use crate::lists::Stamps;
 use moment_core::Clock;
+use rule_core::FieldRule;
 use span_core::Span;
 
 /// Whether a set is made of moments alone.
@@ -25,6 +26,8 @@ pub enum Expr {
     List(Stamps),
     /// The positions of the span, with the clocks of its low and its high bound; a bound that isn't given has any clock.
     Span(Span, Clock, Clock),
+    /// The moments of a field rule.
+    Field(FieldRule),
     /// The positions of either set.
     Union(Box<Expr>, Box<Expr>),
     /// The positions of both sets.
