@@ -1,4 +1,8 @@
+mod Ampleness
 pub mod Counting
+mod Days
 pub mod Framing
+pub mod Listing
+pub mod RuleTurning
 pub mod Sweeping
 pub mod Turning

@@ -3,10 +3,11 @@ use Rattle.std.specs.Prelude.{ℕ, zero, suc, ◌+◌, ℤ, pos, ◌+ℤ◌, Boo
 use Rattle.std.specs.Int.{int_gap}
 use Rattle.std.specs.Ordering.{int_eq}
 use Rattle.moment_core.specs.Line.{position_of}
+use Rattle.moment_core.specs.Sets.{moments_in}
 use Rattle.span_core.specs.declared.bounds.Bound.{Bound}
 use Rattle.span_core.specs.declared.bounds.Bound.TheVariants.{Closed, Open, Inf, Edge}
-use Rattle.expr_tree.specs.Members.{is_listed}
-use Rattle.expr_tree.specs.Tree.{Tree, Empty, Listed, Spanned, Union, Meet, Minus, Not}
+use Rattle.stored_pair.specs.Meanings.{Meaning}
+use Rattle.expr_tree.specs.Tree.{Tree, Empty, Spanned, Ruled, Joined, Not}
 
 -- how many of the n positions from p on pass the test
 unfoldable pub count_from : (ℤ → Bool) → ℤ → ℕ → ℕ
@@ -27,22 +28,18 @@ is_bound_at Edge p = false
 abbrev pub bounds_at : Bound × Bound → ℤ → Bool
 bounds_at bounds p = is_bound_at bounds.0 p || is_bound_at bounds.1 p
 
--- a listed moment or the bound of a span stands at the position, in some leaf
-abbrev pub is_candidate : Tree → ℤ → Bool
+-- a candidate of a rule or the bound of a span stands at the position, in some leaf
+abbrev pub is_candidate : Tree Meaning → ℤ → Bool
 is_candidate Empty p = false
-is_candidate (Listed stamps) p = is_listed stamps p
 is_candidate (Spanned bounds low high) p = bounds_at bounds p
-is_candidate (Union a b) p = is_candidate a p || is_candidate b p
-is_candidate (Meet a b) p = is_candidate a p || is_candidate b p
-is_candidate (Minus a b) p = is_candidate a p || is_candidate b p
+is_candidate (Ruled rule) p = moments_in rule.candidate p
+is_candidate (Joined op a b) p = is_candidate a p || is_candidate b p
 is_candidate (Not a) p = is_candidate a p
 
--- the candidates from position a to position b: listed moments, bounds of spans, and the sum over two children
-abbrev pub candidates : Tree → ℤ → ℤ → ℕ
+-- the candidates from position a to position b: those of rules, bounds of spans, and the sum over two children
+abbrev pub candidates : Tree Meaning → ℤ → ℤ → ℕ
 candidates Empty a b = 0
-candidates (Listed stamps) a b = count_between (is_listed stamps) a b
 candidates (Spanned bounds low high) a b = count_between (bounds_at bounds) a b
-candidates (Union x y) a b = candidates x a b + candidates y a b
-candidates (Meet x y) a b = candidates x a b + candidates y a b
-candidates (Minus x y) a b = candidates x a b + candidates y a b
+candidates (Ruled rule) a b = count_between (moments_in rule.candidate) a b
+candidates (Joined op x y) a b = candidates x a b + candidates y a b
 candidates (Not x) a b = candidates x a b

@@ -1,5 +1,10 @@
+pub mod Ample
 pub mod Candidates
+pub mod Due
+pub mod Lawful
+pub mod Laws
 pub mod Lowered
+pub mod Nodes
 pub mod Searches
 pub mod Stamped
 pub mod TreeFrames

@@ -1,10 +1,14 @@
 -- The nearest place at which a set may change.
-use Rattle.std.specs.Prelude.{◌≡◌, ◌+◌, ◌≤◌, ℕ, ℤ, pos, ◌+ℤ◌, Bool, true, int_lt, Option, Some, None}
-use Rattle.moment_core.specs.Line.{moment_of, position_of}
+use Rattle.std.specs.Prelude.{◌≡◌, ◌+◌, ◌≤◌, ℕ, ℤ, pos, ◌+ℤ◌, ◌-ℤ◌, Bool, true, ◌||◌, int_lt, Option, Some, None, if◌then◌else◌}
+use Rattle.moment_core.specs.Line.{IsWorkingMoment, moment_of, position_of}
 use Rattle.moment_core.specs.Sets.{ahead, seen}
 use Rattle.moment_core.specs.declared.line.Dir.{Dir}
 use Rattle.moment_core.specs.declared.line.Dir.TheVariants.{Fore, Back}
 use Rattle.moment_core.specs.declared.line.Pos.{Pos}
+use Rattle.moment_core.specs.declared.line.Step.{Step}
+use Rattle.moment_core.specs.declared.line.Step.TheVariants.{Hit, Pass, End}
+use Rattle.span_core.specs.Answers.{IsUpTo}
+use Rattle.cert_audit.specs.declared.turns.Turn.{Turn}
 
 -- q lies past p in the direction
 abbrev pub is_past : Dir → ℤ → ℤ → Bool
@@ -16,12 +20,45 @@ abbrev pub candidate_at : Dir → ℤ → ℤ
 candidate_at Fore q = position_of (moment_of q)
 candidate_at Back q = position_of (moment_of (q +ℤ pos 1))
 
--- nothing changes for n steps, and a candidate stands at the step after them
-pub record TurnsAfter (set candidate : ℤ → Bool) (dir : Dir) (p : ℤ) (n : ℕ) : Type 0 where
-  pub stays : (k : ℕ) → k ≤ n → seen set dir p k ≡ set p
-  pub stands : candidate (candidate_at dir (ahead dir p (n + 1))) ≡ true
+-- where one comes to on crossing the lower end of the positions from `first` on
+abbrev pub crossed : ℤ → Dir → ℤ
+crossed first Fore = first
+crossed first Back = first -ℤ pos 1
 
--- the next place at which the set may change, or none where nothing changes any more
-abbrev pub IsTurn : (ℤ → Bool) → (ℤ → Bool) → Dir → ℤ → Option Pos → Type 0
-IsTurn set candidate dir p (Some q) = (n : ℕ) × (q.0 ≡ ahead dir p (n + 1)) × TurnsAfter set candidate dir p n
-IsTurn set candidate dir p None = (k : ℕ) → seen set dir p k ≡ set p
+-- the nearer of two turns, which counts at one place where either does
+abbrev pub nearer_turn : Dir → Turn → Turn → Turn
+nearer_turn dir a b =
+    if is_past dir a.place.0 b.place.0 then b
+    else if is_past dir b.place.0 a.place.0 then a
+    else record { place = a.place; counts = a.counts || b.counts }
+
+-- nothing changes for n steps, and the turn is at the step after them, which is not past the end
+pub record TurnsAfter (set : ℤ → Bool) (dir : Dir) (p end : ℤ) (turn : Turn) (n : ℕ) : Type 0 where
+  pub place : turn.place.0 ≡ ahead dir p (n + 1)
+  pub within : IsUpTo dir end turn.place.0
+  pub stays : (k : ℕ) → k ≤ n → seen set dir p k ≡ set p
+
+-- the next place up to the end at which the set may change, or none where nothing changes up to there
+abbrev pub IsTurn : (ℤ → Bool) → Dir → ℤ → ℤ → Option Turn → Type 0
+IsTurn set dir p end (Some turn) = (n : ℕ) × TurnsAfter set dir p end turn n
+IsTurn set dir p end None = (k : ℕ) → IsUpTo dir end (ahead dir p k) → seen set dir p k ≡ set p
+
+-- a candidate stands at the turn, where it counts as one
+abbrev pub StandsIfCounted : (ℤ → Bool) → Dir → Option Turn → Type 0
+StandsIfCounted candidate dir (Some turn) = turn.counts ≡ true → candidate (candidate_at dir turn.place.0) ≡ true
+StandsIfCounted candidate dir None = Unit {0}
+
+-- a turn that counts, where it isn't past the end
+abbrev pub turn_up_to : Dir → Pos → Pos → Option Turn
+turn_up_to dir place end = if is_past dir place.0 end.0 then None else Some (record { place = place; counts = true })
+
+-- the candidate of a step lies in the working range, and its turn
+abbrev pub IsWorkingStep : Step → Type 0
+IsWorkingStep (Hit u) = IsWorkingMoment u.0
+IsWorkingStep (Pass u) = IsWorkingMoment u.0
+IsWorkingStep End = Unit {0}
+
+abbrev pub turn_of_step : Dir → Pos → Step → Option Turn
+turn_of_step dir end (Hit u) = turn_up_to dir (record { 0 = position_of u.0 }) end
+turn_of_step dir end (Pass u) = turn_up_to dir (record { 0 = position_of u.0 }) end
+turn_of_step dir end End = None

@@ -3,7 +3,10 @@
 
 mod ends;
 mod frames;
+mod laws;
+mod leaves;
 mod lowering;
+mod moments;
 mod nodes;
 mod search;
 #[cfg(test)]
@@ -11,5 +14,6 @@ mod tests;
 mod turns;
 
 pub use frames::frame_of;
+pub use laws::{ample_laws, candidate_laws, ready_laws, tree_frame_laws};
 pub use lowering::{PlanFault, Ready};
 pub use search::sweep;

@@ -1,11 +1,13 @@
 ghost use Rattle.std.specs.Prelude.{◌≡◌, ◌≤◌, IfErr, IfOk};
 ghost use Rattle.moment_core.specs.Line.{IsCalendarPosition};
-ghost use Rattle.expr_tree.specs.Tree.{tree_of};
-ghost use Rattle.cert_audit.specs.Lowered.{CanBeReady, members_of, tree_of_ready};
-ghost use Rattle.cert_audit.specs.Searches.{test_of};
+ghost use Rattle.cert_audit.specs.Lawful.{AreLawful, AreLawful-prop};
+ghost use Rattle.cert_audit.specs.Nodes.{meant_of_node};
+ghost use Rattle.cert_audit.specs.TreeFrames.{frame_of_tree};
 
+use crate::frames::node_frame;
 use crate::nodes::Node;
 use expr_tree::Expr;
+use frame_core::Frame;
 use moment_core::{Moment, Pos, Steps};
 use span_core::Test;
 use std::alloc::Global;
@@ -24,18 +26,30 @@ pub enum PlanFault {
 #[derive(Drop)]
 pub struct Ready<'b> {
     pub(crate) root: Node,
+    pub(crate) frame: Option<Frame>,
     book: &'b Book,
+    ghost framed: { frame ≡ frame_of_tree (meant_of_node root) },
+    ghost lawful: { AreLawful (meant_of_node root) } by { AreLawful-prop (meant_of_node root) },
 }
 
 impl<'b> Ready<'b> {
+    ghost use Rattle.expr_tree.specs.Tree.{meant_of, tree_of};
+    ghost use Rattle.stored_pair.specs.Names.{entries_of};
+    ghost use Rattle.cert_audit.specs.Lowered.{CanBeReady, members_of, meant_of_ready};
+    ghost use Rattle.cert_audit.specs.Searches.{test_of};
+
     /// Copies the tree and makes its leaves ready. `Settle` never comes, since no leaf counts its members yet.
     pub fn make(alloc: Global, e: &Expr, book: &'b Book) -> Result<Ready<'b>, PlanFault>
         requires { CanBeReady (tree_of e.now) }
-        ensures tree { IfOk result (λ ready. tree_of_ready ready ≡ tree_of e.now) }
+        ensures meant { IfOk result
+            (λ ready. meant_of_ready ready ≡ meant_of (entries_of book.now) (tree_of e.now)) }
         ensures memory { IfErr result (λ fault. fault ≡ PlanFault.Memory) }
     {
-        match Node::lower(alloc, e) {
-            Ok(root) => Ok(Ready { root, book }),
+        match Node::lower(alloc, e, book) {
+            Ok(root) => {
+                let frame = node_frame(&root);
+                Ok(Ready { root, frame, book })
+            }
             Err(_) => Err(PlanFault::Memory),
         }
     }
@@ -47,7 +61,7 @@ impl<'b> Ready<'b> {
         ensures value { result ≡ test_of (members_of self.now p.0) }
         ensures counted { steps.old ≤ steps.new }
     {
-        if self.root.holds(p) {
+        if self.root.holds(p, steps) {
             Test::In
         } else {
             Test::Out

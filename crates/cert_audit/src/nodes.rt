@@ -1,124 +1,111 @@
-ghost use Rattle.std.specs.Prelude.{◌≡◌, IfOk};
-ghost use Rattle.expr_tree.specs.Members.{is_listed, is_member};
-ghost use Rattle.expr_tree.specs.Tree.{tree_of};
+ghost use Rattle.std.specs.Prelude.{◌≡◌, ◌≤◌, IfOk};
+ghost use Rattle.expr_tree.specs.Members.{is_member};
+ghost use Rattle.expr_tree.specs.Tree.{Joined, meant_of, tree_of};
 ghost use Rattle.expr_tree.specs.WellFormed.{IsWellFormed};
-ghost use Rattle.cert_audit.specs.Lowered.{tree_of_node};
-ghost use Rattle.cert_audit.specs.Stamped.{AreCalendarMoments};
+ghost use Rattle.moment_core.specs.Line.{IsCalendarPosition};
+ghost use Rattle.moment_core.specs.Sets.{moments_in};
+ghost use Rattle.stored_pair.specs.Names.{entries_of};
+ghost use Rattle.cert_audit.specs.Nodes.{meant_of_node};
 
+use crate::leaves::Leaf;
+use crate::moments::Moments;
 use expr_tree::Expr;
-use moment_core::{Clock, Pos, Stamp, of};
+use field_rules::{FieldLeaf, lower_field};
+use moment_core::{Clock, Op, Pos, Steps, floor, of};
 use span_core::Span;
 use std::alloc::{AllocError, Global};
-use std::marker::Model;
-
-/// Moments of the calendar range. Contracts see their list.
-#[derive(Debug, Drop)]
-pub(crate) struct Moments {
-    stamps: Vec<Stamp>,
-}
-
-impl Model for Moments {
-    ghost use Rattle.std.specs.Prelude.{List};
-    ghost use Rattle.moment_core.specs.declared.line.Stamp.{Stamp};
-    ghost use Rattle.cert_audit.specs.Stamped.{AreCalendarMoments};
-
-    ghost Value = { List Stamp };
-
-    ghost view = { λ m. m.stamps.items };
-
-    ghost invariant = { λ m. AreCalendarMoments m.stamps.items };
-}
-
-impl Moments {
-    fn copy_of(alloc: Global, stamps: &[Stamp]) -> Result<Moments, AllocError>
-        requires { AreCalendarMoments stamps.now }
-        ensures { IfOk result (λ moments. moments ≡ stamps.now) }
-    {
-        let stamps = Vec::from_slice(alloc, stamps)?;
-        Ok(Moments { stamps })
-    }
-
-    /// The moments, in their order.
-    pub(crate) fn items(&self) -> &[Stamp]
-        ensures value { result.now ≡ self.now }
-        ensures in_range { AreCalendarMoments self.now }
-    {
-        self.stamps.as_slice()
-    }
-}
+use std::sync::ledger::Ledger;
+use stored_pair::{Book, Guarded};
 
 /// A node of a tree made ready.
-#[derive(Debug, Drop)]
+#[derive(Drop)]
 pub(crate) enum Node {
     Empty,
     List(Moments),
     Span(Span, Clock, Clock),
-    Union(Box<Node>, Box<Node>),
-    Meet(Box<Node>, Box<Node>),
-    Minus(Box<Node>, Box<Node>),
+    Field(Guarded<FieldLeaf>),
+    Joined(Op, Box<Node>, Box<Node>),
     Not(Box<Node>),
 }
 
 impl Node {
-    /// A copy of the tree.
-    pub(crate) fn lower(alloc: Global, e: &Expr) -> Result<Node, AllocError>
+    /// A copy of the tree, over the book whose entries it may name. No form names one yet.
+    pub(crate) fn lower(alloc: Global, e: &Expr, book: &Book) -> Result<Node, AllocError>
         requires { IsWellFormed (tree_of e.now) }
-        ensures { IfOk result (λ node. tree_of_node node ≡ tree_of e.now) }
+        ensures { IfOk result
+            (λ node. meant_of_node node ≡ meant_of (entries_of book.now) (tree_of e.now)) }
     {
         match e {
             Expr::Empty => Ok(Node::Empty),
             Expr::List(stamps) => {
-                let moments = Moments::copy_of(alloc, stamps.items())?;
+                let moments = Moments::in_order(alloc, stamps.items())?;
                 Ok(Node::List(moments))
             }
             Expr::Span(span, low, high) => Ok(Node::Span(*span, *low, *high)),
+            Expr::Field(rule) => Ok(Node::Field(lower_field(rule))),
             Expr::Union(a, b) => {
-                let left = Box::new(alloc, Node::lower(alloc, a)?)?;
-                let right = Box::new(alloc, Node::lower(alloc, b)?)?;
-                Ok(Node::Union(left, right))
+                Node::join(
+                    alloc,
+                    Op::Union,
+                    Node::lower(alloc, a, book)?,
+                    Node::lower(alloc, b, book)?,
+                )
             }
             Expr::Meet(a, b) => {
-                let left = Box::new(alloc, Node::lower(alloc, a)?)?;
-                let right = Box::new(alloc, Node::lower(alloc, b)?)?;
-                Ok(Node::Meet(left, right))
+                Node::join(
+                    alloc,
+                    Op::Meet,
+                    Node::lower(alloc, a, book)?,
+                    Node::lower(alloc, b, book)?,
+                )
             }
             Expr::Minus(a, b) => {
-                let left = Box::new(alloc, Node::lower(alloc, a)?)?;
-                let right = Box::new(alloc, Node::lower(alloc, b)?)?;
-                Ok(Node::Minus(left, right))
+                Node::join(
+                    alloc,
+                    Op::Minus,
+                    Node::lower(alloc, a, book)?,
+                    Node::lower(alloc, b, book)?,
+                )
             }
             Expr::Not(a) => {
-                let inner = Box::new(alloc, Node::lower(alloc, a)?)?;
+                let inner = Box::new(alloc, Node::lower(alloc, a, book)?)?;
                 Ok(Node::Not(inner))
             }
         }
     }
 
+    fn join(alloc: Global, op: Op, a: Node, b: Node) -> Result<Node, AllocError>
+        ensures { IfOk result (λ node.
+            meant_of_node node ≡ Joined op (meant_of_node a) (meant_of_node b)) }
+    {
+        Ok(Node::Joined(op, Box::new(alloc, a)?, Box::new(alloc, b)?))
+    }
+
     /// Whether the position is a member.
-    pub(crate) fn holds(&self, p: Pos) -> bool
-        ensures { result ≡ is_member (tree_of_node self.now) p.0 }
+    pub(crate) fn holds<L: Ledger>(&self, p: Pos, steps: &mut Steps<L>) -> bool
+        requires { IsCalendarPosition p.0 }
+        ensures value { result ≡ is_member (meant_of_node self.now) p.0 }
+        ensures counted { steps.old ≤ steps.new }
     {
         match self {
             Node::Empty => false,
-            Node::List(moments) => is_listed(moments.items(), p),
+            Node::List(moments) => is_met(moments, p, steps),
             Node::Span(span, _, _) => span.holds(p),
-            Node::Union(a, b) => a.holds(p) || b.holds(p),
-            Node::Meet(a, b) => a.holds(p) && b.holds(p),
-            Node::Minus(a, b) => a.holds(p) && !b.holds(p),
-            Node::Not(a) => !a.holds(p),
+            Node::Field(leaf) => is_met(leaf, p, steps),
+            Node::Joined(Op::Union, a, b) => a.holds(p, steps) || b.holds(p, steps),
+            Node::Joined(Op::Meet, a, b) => a.holds(p, steps) && b.holds(p, steps),
+            Node::Joined(Op::Minus, a, b) => a.holds(p, steps) && !b.holds(p, steps),
+            Node::Not(a) => !a.holds(p, steps),
         }
     }
 }
 
-/// Whether the position is one of the moments.
-fn is_listed(stamps: &[Stamp], p: Pos) -> bool
-    requires { AreCalendarMoments stamps.now }
-    ensures { result ≡ is_listed stamps.now p.0 }
+/// Whether the position is a moment of the leaf.
+fn is_met<F: Leaf, L: Ledger>(leaf: &F, p: Pos, steps: &mut Steps<L>) -> bool
+    requires { IsCalendarPosition p.0 }
+    ensures value { result ≡ moments_in (F.has leaf.now) p.0 }
+    ensures counted { steps.old ≤ steps.new }
 {
-    for stamp in stamps {
-        if of(stamp.moment) == p {
-            return true;
-        }
-    }
-    false
+    let t = floor(p);
+    of(t) == p && leaf.test(t, steps)
 }

@@ -1,16 +1,16 @@
 ghost use Rattle.std.specs.Prelude.{◌≡◌, ◌≤◌, ◌<◌, ◌+◌, ◌^◌, IfSome};
 ghost use Rattle.moment_core.specs.Line.{IsCalendarPosition};
 ghost use Rattle.span_core.specs.Answers.{end_of};
-ghost use Rattle.frame_core.specs.Frames.{window_if_framed};
-ghost use Rattle.cert_audit.specs.Lowered.{frame_of_ready, members_of};
+ghost use Rattle.cert_audit.specs.Lowered.{members_of, window_of_ready};
 ghost use Rattle.cert_audit.specs.Searches.{AnswersAt, passed_by, unchanged};
 ghost use Rattle.cert_audit.specs.Turns.{candidate_at};
 
 use crate::ends::one_after;
 use crate::frames::frame_of;
+use crate::laws::tree_frame_laws;
 use crate::lowering::Ready;
-use crate::turns::{is_past, turn_within};
-use frame_core::window;
+use crate::turns::{Turn, is_past, next_turn};
+use frame_core::{window, window_laws};
 use moment_core::{Dir, HIGH, LOW, Pos, Steps, Window, floor};
 use span_core::{Answer, Stop};
 use std::sync::ledger::Ledger;
@@ -25,21 +25,23 @@ pub fn sweep<L: Ledger>(r: &Ready, p: Pos, dir: Dir, budget: u64, steps: &mut St
     ensures answer { AnswersAt r.now p.0 dir budget result }
     ensures counted { steps.old ≤ steps.new }
 {
+    tree_frame_laws();
+    window_laws();
     let window = window_of(r, p, dir);
     let end = search_end(window, dir);
-    let here = r.root.holds(p);
+    let here = r.root.holds(p, steps);
     let mut place = p;
     let mut passed = 0;
     'turns: loop {
-        let Some(next) = turn_within(&r.root, place, dir, end) else {
+        let Some(turn) = next_turn(&r.root, place, dir, end, steps) else {
             return without_change(window);
         };
-        let there = r.root.holds(next);
+        let there = r.root.holds(turn.place, steps);
         if there != here {
-            return Answer::At(next);
+            return Answer::At(turn.place);
         }
-        passed = with_candidate(passed, dir, p, place, next);
-        place = next;
+        passed = with_candidate(passed, dir, p, place, turn);
+        place = turn.place;
         if budget <= passed {
             return Answer::Budget(Stop { at: place, node: 0 });
         }
@@ -48,7 +50,7 @@ pub fn sweep<L: Ledger>(r: &Ready, p: Pos, dir: Dir, budget: u64, steps: &mut St
 
 /// The window that the search ends with, where there is one.
 fn window_of(r: &Ready, p: Pos, dir: Dir) -> Option<Window>
-    ensures { result ≡ window_if_framed (frame_of_ready r.now) dir p.0 }
+    ensures { result ≡ window_of_ready r.now dir p.0 }
 {
     match frame_of(r) {
         Some(frame) => window(frame, p, dir),
@@ -78,13 +80,13 @@ fn search_end(window: Option<Window>, dir: Dir) -> Pos
     }
 }
 
-/// One more for the candidate of the turn at `next`, where it wasn't passed before.
-fn with_candidate(passed: u64, dir: Dir, p: Pos, place: Pos, next: Pos) -> u64
+/// One more for a turn that counts, where its candidate wasn't passed before.
+fn with_candidate(passed: u64, dir: Dir, p: Pos, place: Pos, turn: Turn) -> u64
     requires room { passed + 1 < 2 ^ 64 }
-    requires next { IsCalendarPosition next.0 }
-    ensures { result ≡ passed_by passed dir p.0 place.0 next.0 }
+    requires turn { IsCalendarPosition turn.place.0 }
+    ensures { result ≡ passed_by passed dir p.0 place.0 turn }
 {
-    if place == p || is_past(dir, candidate_at(dir, next), place) {
+    if turn.counts && (place == p || is_past(dir, candidate_at(dir, turn.place), place)) {
         passed + 1
     } else {
         passed

@@ -290,3 +290,60 @@ fn so_it_does_at_both_ends_of_the_range(rt: HostRuntime) -> Result<(), Fail> {
     agrees(&rt, alloc, &book, union(alloc, below, first)?, Pos(2 * LOW))?;
     Ok(())
 }
+
+/// The set doesn't change from `hi` upwards and from `lo` downwards.
+fn stays_past(
+    rt: &impl Abort,
+    alloc: Global,
+    book: &Book,
+    set: Expr,
+    hi: i64,
+    lo: i64,
+) -> Result<(), PlanFault>
+    requires { IsWellFormed (tree_of set) }
+{
+    let ready = make(rt, alloc, &set, book)?;
+    let frame = Frame {
+        lo: Pos(lo),
+        hi: Pos(hi),
+        period: 1,
+    };
+    assert_eq!(rt; frame_of(&ready), Some(frame), "at {set:?}");
+    Ok(())
+}
+
+#[test]
+fn each_kind_of_span_has_its_frame(rt: HostRuntime) -> Result<(), Fail> {
+    let alloc = rt.alloc();
+    let book = Book::empty(alloc);
+    let both = span(Bound::Closed(Moment(0)), Bound::Open(Moment(5)))?;
+    stays_past(&rt, alloc, &book, both, 10, -1)?;
+    let open = span(Bound::Open(Moment(5)), Bound::Closed(Moment(9)))?;
+    stays_past(&rt, alloc, &book, open, 19, 10)?;
+    let low = span(Bound::Closed(Moment(0)), Bound::Inf)?;
+    stays_past(&rt, alloc, &book, low, 0, -1)?;
+    let high = span(Bound::Inf, Bound::Open(Moment(9)))?;
+    stays_past(&rt, alloc, &book, high, 18, 17)?;
+    let whole = span(Bound::Inf, Bound::Inf)?;
+    stays_past(&rt, alloc, &book, whole, -754_838_438_400, 506_232_806_398)?;
+    Ok(())
+}
+
+#[test]
+fn nothing_changes_past_a_span_either_way(rt: HostRuntime) -> Result<(), Fail> {
+    let alloc = rt.alloc();
+    let book = Book::empty(alloc);
+    let set = span(Bound::Closed(Moment(0)), Bound::Open(Moment(5)))?;
+    let ready = make(&rt, alloc, &set, &book)?;
+    let above = Answer::None(Window {
+        lo: Pos(12),
+        hi: Pos(14),
+    });
+    let below = Answer::None(Window {
+        lo: Pos(-5),
+        hi: Pos(-3),
+    });
+    assert_eq!(rt; answer(&rt, &ready, Pos(12), Dir::Fore, 1), above);
+    assert_eq!(rt; answer(&rt, &ready, Pos(-3), Dir::Back, 1), below);
+    Ok(())
+}
