@@ -1,2 +1,2 @@
-pub mod Ample
+pub mod Laws
 pub mod Neighbours

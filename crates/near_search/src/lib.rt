@@ -7,4 +7,4 @@ mod neighbours;
 mod tests;
 
 pub use laws::{budget_laws, endless_laws, next_laws};
-pub use neighbours::next;
+pub use neighbours::{next, previous};

@@ -4,10 +4,11 @@ ghost use Rattle.span_core.specs.Bounds.{IsGiven};
 ghost use Rattle.expr_tree.specs.Tree.{tree_of};
 ghost use Rattle.expr_tree.specs.WellFormed.{HasClock, IsWellFormed};
 
-use crate::next;
+use crate::{next, previous};
 use cert_audit::{PlanFault, Ready};
 use expr_tree::{Expr, Stamps, sort_of};
-use moment_core::{Clock, HIGH, Moment, Pos, Stamp, Steps, Window, in_range};
+use moment_core::{Clock, Dir, HIGH, LOW, Moment, Pos, Stamp, Steps, Window, in_range};
+use rule_core::{FieldRule, Freq, Signed};
 use span_core::{Bound, Empty, Near, Run, Span};
 use std::alloc::{AllocError, Global};
 use std::marker::Brand;
@@ -66,23 +67,28 @@ fn inverse(alloc: Global, a: Expr) -> Result<Expr, AllocError>
     Ok(Expr::Not(Box::new(alloc, a)?))
 }
 
-fn counted<L: Ledger>(rt: &impl Abort, r: &Ready, at: Moment, blank: Blank) -> Near
+fn counted<L: Ledger>(rt: &impl Abort, r: &Ready, dir: Dir, at: Moment, blank: Blank) -> Near
     requires name { blank.name ≡ L.name }
     requires parts { blank.parts ≡ L.parts }
     requires some { 0 < blank.parts }
 {
     assert!(rt; in_range(at));
-    next(r, at, 100, &mut Steps::<L>::new(blank))
+    let mut steps = Steps::<L>::new(blank);
+    match dir {
+        Dir::Fore => next(r, at, 10_000, &mut steps),
+        Dir::Back => previous(r, at, 10_000, &mut steps),
+    }
 }
 
-fn near(rt: &impl Abort, r: &Ready, at: Moment) -> Near {
-    counted::<Brand>(rt, r, at, Blank::new(1))
+fn near(rt: &impl Abort, r: &Ready, dir: Dir, at: Moment) -> Near {
+    counted::<Brand>(rt, r, dir, at, Blank::new(1))
 }
 
-/// After each of the moments the set has this next run or answer.
-fn has_next(
+/// Past each of the moments the set has this next run or answer, in the direction.
+fn has_near(
     rt: &impl Abort,
     alloc: Global,
+    dir: Dir,
     set: Expr,
     rows: &[(Moment, Near)],
 ) -> Result<(), PlanFault>
@@ -92,9 +98,35 @@ fn has_next(
     assert!(rt; sort_of(&set, &book).is_ok());
     let ready = Ready::make(alloc, &set, &book)?;
     for (at, want) in rows {
-        assert_eq!(rt; near(rt, &ready, *at), *want, "after {at:?} in {set:?}");
+        assert_eq!(rt;
+            near(rt, &ready, dir, *at),
+            *want,
+            "{dir:?} from {at:?} in {set:?}"
+        );
     }
     Ok(())
+}
+
+fn has_next(
+    rt: &impl Abort,
+    alloc: Global,
+    set: Expr,
+    rows: &[(Moment, Near)],
+) -> Result<(), PlanFault>
+    requires { IsWellFormed (tree_of set) }
+{
+    has_near(rt, alloc, Dir::Fore, set, rows)
+}
+
+fn has_previous(
+    rt: &impl Abort,
+    alloc: Global,
+    set: Expr,
+    rows: &[(Moment, Near)],
+) -> Result<(), PlanFault>
+    requires { IsWellFormed (tree_of set) }
+{
+    has_near(rt, alloc, Dir::Back, set, rows)
 }
 
 fn found(first: Bound, last: Bound) -> Near {
@@ -189,6 +221,124 @@ fn the_next_runs_of_small_sets(rt: HostRuntime) -> Result<(), Fail> {
             (T, never(2_082_758_400, 2_082_758_402)),
             (Moment(HIGH), Near::Edge),
         ],
+    )?;
+    Ok(())
+}
+
+#[test]
+fn the_previous_runs_of_small_sets(rt: HostRuntime) -> Result<(), Fail> {
+    let alloc = rt.alloc();
+    let one = only(alloc, T)?;
+    has_previous(
+        &rt,
+        alloc,
+        one,
+        &[
+            (
+                Moment(1_041_379_201),
+                found(Bound::Closed(T), Bound::Closed(T)),
+            ),
+            (T, never(2_082_758_397, 2_082_758_399)),
+        ],
+    )?;
+    let others = inverse(alloc, only(alloc, T)?)?;
+    has_previous(
+        &rt,
+        alloc,
+        others,
+        &[(T, found(Bound::Inf, Bound::Open(T)))],
+    )?;
+    let low = span(Bound::Closed(Moment(0)), Bound::Open(Moment(5)))?;
+    let apart = union(
+        alloc,
+        low,
+        span(Bound::Open(Moment(5)), Bound::Closed(Moment(9)))?,
+    )?;
+    has_previous(
+        &rt,
+        alloc,
+        apart,
+        &[
+            (
+                Moment(10),
+                found(Bound::Open(Moment(5)), Bound::Closed(Moment(9))),
+            ),
+            (
+                Moment(9),
+                found(Bound::Closed(Moment(0)), Bound::Open(Moment(5))),
+            ),
+        ],
+    )?;
+    let first = span(Bound::Closed(Moment(LOW)), Bound::Closed(Moment(LOW + 1)))?;
+    has_previous(
+        &rt,
+        alloc,
+        first,
+        &[
+            (
+                Moment(LOW + 3),
+                found(Bound::Edge, Bound::Closed(Moment(LOW + 1))),
+            ),
+            (Moment(LOW + 1), Near::Edge),
+        ],
+    )?;
+    Ok(())
+}
+
+/// The midnights on a day of the month.
+fn monthly(rt: &impl Abort, alloc: Global, day: i64) -> Result<Expr, AllocError>
+    ensures { IfOk result (λ e. IsWellFormed (tree_of e)) }
+{
+    let days = Signed::of(Vec::from_slice(alloc, &[day])?);
+    let rule = FieldRule {
+        freq: Freq::Monthly,
+        months: Signed::of(Vec::new(alloc)),
+        weeks: Signed::of(Vec::new(alloc)),
+        days,
+        hours: Signed::of(Vec::new(alloc)),
+        minutes: Signed::of(Vec::new(alloc)),
+        seconds: Signed::of(Vec::new(alloc)),
+        interval: 1,
+        start: None,
+        week_start: None,
+    };
+    match rule.check() {
+        Ok(()) => Ok(Expr::Field(rule)),
+        Err(_) => panic!(rt; "no rule"),
+    }
+}
+
+fn meet(alloc: Global, a: Expr, b: Expr) -> Result<Expr, AllocError>
+    requires a { IsWellFormed (tree_of a) }
+    requires b { IsWellFormed (tree_of b) }
+    ensures { IfOk result (λ e. IsWellFormed (tree_of e)) }
+{
+    Ok(Expr::Meet(Box::new(alloc, a)?, Box::new(alloc, b)?))
+}
+
+/// 2003-04-13T00:00:00, a day 13 with 17 days of its month after it.
+const MIDDLE: Moment = Moment(1_050_192_000);
+
+#[test]
+fn the_nearest_runs_of_rules(rt: HostRuntime) -> Result<(), Fail> {
+    let alloc = rt.alloc();
+    let both = meet(alloc, monthly(&rt, alloc, 13)?, monthly(&rt, alloc, -18)?)?;
+    let alone = found(Bound::Closed(MIDDLE), Bound::Closed(MIDDLE));
+    has_next(&rt, alloc, both, &[(T, alone)])?;
+    let day = meet(alloc, monthly(&rt, alloc, 13)?, monthly(&rt, alloc, 13)?)?;
+    has_previous(&rt, alloc, day, &[(Moment(1_050_192_001), alone)])?;
+    let not = inverse(alloc, monthly(&rt, alloc, 13)?)?;
+    has_next(
+        &rt,
+        alloc,
+        not,
+        &[(
+            T,
+            found(
+                Bound::Open(Moment(1_042_416_000)),
+                Bound::Open(Moment(1_045_094_400)),
+            ),
+        )],
     )?;
     Ok(())
 }

@@ -1,19 +1,15 @@
-use Rattle.near_search.proofs.Ampleness.{ample_for_next}
-use Rattle.near_search.proofs.Busiest.{one_busiest, some_busiest}
-use Rattle.near_search.proofs.Days.{below_ample, whole_days}
+use Rattle.moment_core.specs.Line.{position_of}
+use Rattle.expr_tree.specs.Members.{is_member}
+use Rattle.near_search.proofs.Ranging.{place_in_range}
+use Rattle.moment_core.proofs.LineLaws.{position_in_range}
 use Rattle.near_search.proofs.laws.budget_laws.Goals as goal
 
-pub returns-clause-some : goal.returns-clause-some
-returns-clause-some c tree = some_busiest tree
-
-pub returns-clause-one : goal.returns-clause-one
-returns-clause-one c tree m n h k = one_busiest tree m n h k
-
-pub returns-clause-days : goal.returns-clause-days
-returns-clause-days c = whole_days
-
 pub returns-clause-ample : goal.returns-clause-ample
-returns-clause-ample c tree budget a b here there ample = below_ample tree budget a b here there ample
+returns-clause-ample c tree dir budget at reach here ample place is =
+    c.ample_laws.ensures.ample tree dir place budget reach
+    (place_in_range (is_member tree) dir 2 (position_of at) place (position_in_range at here) is) ample
 
-pub returns-clause-searches : goal.returns-clause-searches
-returns-clause-searches c tree frame budget at here ample = ample_for_next tree frame budget at here ample
+pub returns-clause-enough : goal.returns-clause-enough
+returns-clause-enough c tree dir budget at here above place is =
+    c.ample_laws.ensures.enough tree dir place budget
+    (place_in_range (is_member tree) dir 2 (position_of at) place (position_in_range at here) is) (above place is)
