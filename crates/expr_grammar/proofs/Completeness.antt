@@ -1,26 +1,31 @@
 -- What is spelled so is read, whatever follows that doesn't go on with it.
 use Rattle.std.proofs.Common.{◌≡◌, ℕ, zero, suc, ◌≤◌, true, false, List, [], ◌∷◌, ◌++◌, length, Option, Some, None, refl, sym, ap, ◌∙◌, append_assoc, arith, length-append}
 use Rattle.std.proofs.lemmas.List.{append-nil}
-use Rattle.expr_tokens.specs.declared.token.Operator.{Operator}
-use Rattle.expr_tokens.specs.declared.token.Operator.TheVariants as operators
+use Rattle.moment_core.specs.declared.joining.Op.{Op}
+use Rattle.moment_core.specs.declared.joining.Op.TheVariants as operators
 use Rattle.expr_tokens.specs.Plain.{Token}
 use Rattle.expr_tokens.specs.Plain as tokens
 use Rattle.moment_core.specs.declared.line.Stamp.{Stamp}
 use Rattle.expr_grammar.specs.declared.syntax.SpanBound.{SpanBound}
 use Rattle.expr_grammar.specs.Form.{Form, Span, Joined, Forms}
-use Rattle.expr_grammar.specs.Grammar.{Goes, ends, goes, Chain, MoreMoments, closed, more, IsLow, from_start, from_after, IsHigh, to_end, to_before, Bounds, no_bound, low_bound, high_bound, both_bounds, Leaf, empty, listed, span, Nested, leaf, brackets, inverse, IsExpr, IsAtom, Spells, one, two}
-use Rattle.expr_grammar.specs.Parsing.{list_at, Read, same, stands, chain_from, chain_at, expr_at, moments_at, close_at, high_end_at, low_end_at, span_at, leaf_at, nested_at, atom_at, second_at, program_end_at, program_at}
+use Rattle.expr_grammar.specs.Grammar.{Goes, ends, goes, Chain, MoreMoments, closed, more, IsLow, from_start, from_after, IsHigh, to_end, to_before, Bounds, no_bound, low_bound, high_bound, both_bounds, Leaf, empty, listed, span, rule, Nested, leaf, brackets, inverse, IsExpr, IsAtom, Spells, one, two}
+use Rattle.expr_grammar.specs.Laws.{SpellOne}
+use Rattle.rule_core.specs.declared.part.Freq.{Freq}
+use Rattle.rule_core.specs.declared.part.Freq.TheVariants as freqs
+use Rattle.expr_grammar.specs.Fields.{freq_word}
+use Rattle.expr_grammar.proofs.Rules.{rule_complete}
+use Rattle.expr_grammar.specs.Parsing.{list_at, Read, same, stands, chain_from, chain_at, expr_at, moments_at, close_at, high_end_at, low_end_at, span_at, rule_at, leaf_at, nested_at, atom_at, second_at, program_end_at, program_at}
 
 -- what is spelled so is read, where the rest doesn't go on with it
 abbrev pub IsComplete : (Form → List Token → Type 0) → (List Token → Read) → (List Token → Type 0) → Type 0
 IsComplete Spelled read Stops = (t : Form) (front rest : List Token) → Spelled t front → Stops rest → read (front ++ rest) ≡ Some (t, rest)
 
-same-self : (op : Operator) → same op op ≡ true
+same-self : (op : Op) → same op op ≡ true
 same-self operators.Union = refl
 same-self operators.Minus = refl
 same-self operators.Meet = refl
 
-module _ (Operand : Form → List Token → Type 0) (operand : List Token → Read) (Stops : List Token → Type 0) (op : Operator) (complete : IsComplete Operand operand Stops) (stops : (ts : List Token) → Stops (tokens.Operator op ∷ ts)) where
+module _ (Operand : Form → List Token → Type 0) (operand : List Token → Read) (Stops : List Token → Type 0) (op : Op) (complete : IsComplete Operand operand Stops) (stops : (ts : List Token) → Stops (tokens.Operator op ∷ ts)) where
   goes_stops : (left t : Form) (ts rest : List Token) → Goes Operand op left t ts → Stops rest → Stops (ts ++ rest)
   goes_stops left t ts rest (ends _) h = h
   goes_stops left t ts rest (goes _ b _ xs ys o others) h = stops ((xs ++ ys) ++ rest)
@@ -98,11 +103,23 @@ bounds_complete a b ts rest (both_bounds x y xs ys first second) =
     let e : ((xs ++ tokens.Comma ∷ ys) ++ tokens.Close ∷ []) ++ rest ≡ xs ++ (tokens.Comma ∷ ((ys ++ tokens.Close ∷ []) ++ rest)) = simp append_assoc in
     ap span_at e ∙ low_complete x xs (tokens.Comma ∷ ((ys ++ tokens.Close ∷ []) ++ rest)) first ∙ high_complete (Some x) y ys rest second
 
+-- no other case of a leaf begins as a rule does
+rule_case : (freq : Freq) (ts : List Token) → leaf_at (tokens.Word (freq_word freq) ∷ ts) ≡ rule_at (tokens.Word (freq_word freq) ∷ ts)
+unfolding leaf_at
+rule_case freqs.Yearly ts = refl
+rule_case freqs.Monthly ts = refl
+rule_case freqs.Weekly ts = refl
+rule_case freqs.Daily ts = refl
+rule_case freqs.Hourly ts = refl
+rule_case freqs.Minutely ts = refl
+rule_case freqs.Secondly ts = refl
+
 pub leaf_complete : IsComplete Leaf leaf_at (λ _. Unit {0})
 unfolding leaf_at list_at
 leaf_complete t front rest empty h = refl
 leaf_complete t front rest (listed m ms ts spelled) h = rw (moments_complete ms ts rest spelled) refl
 leaf_complete t front rest (span a b ts spelled) h = bounds_complete a b ts rest spelled
+leaf_complete t front rest (rule freq fields are) h = rule_case freq _ ∙ rule_complete freq fields rest are
 
 module _ (Whole Atom : Form → List Token → Type 0) (whole_at atom : List Token → Read) (whole_complete : IsComplete Whole whole_at StopsAll) (atom_is_complete : IsComplete Atom atom (λ _. Unit {0})) where
   -- no other case of an atom begins as a leaf does
@@ -111,6 +128,7 @@ module _ (Whole Atom : Form → List Token → Type 0) (whole_at atom : List Tok
   leaf_case t front rest empty = refl
   leaf_case t front rest (listed m ms ts spelled) = refl
   leaf_case t front rest (span a b ts spelled) = refl
+  leaf_case t front rest (rule freq fields are) = refl
 
   pub nested_complete : IsComplete (Nested Whole Atom) (nested_at whole_at atom) (λ _. Unit {0})
   unfolding nested_at close_at
@@ -138,6 +156,5 @@ program_complete p ts (two t u xs ys first second) =
     let one_more : expr_at (atom_at 128) ys ≡ Some (u, []) = ap (expr_at (atom_at 128)) (sym (append-nil ys)) ∙ whole_expr_complete u ys [] second (record { union = refl; minus = refl; meet = refl }) in
     rw (whole_expr_complete t xs (tokens.Semicolon ∷ ys) first (record { union = refl; minus = refl; meet = refl }), one_more) refl
 
--- one program for each list of tokens
-pub Spells-unique : (p q : Forms) (ts : List Token) → Spells p ts → Spells q ts → p ≡ q
+pub Spells-unique : SpellOne
 Spells-unique p q ts first second = let e : Some p ≡ Some q = sym (program_complete p ts first) ∙ program_complete q ts second in cc

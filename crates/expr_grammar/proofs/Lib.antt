@@ -1,7 +1,10 @@
 pub mod Loop
+pub mod FieldLoop
+pub mod Parts
+pub mod Rules
 pub mod Soundness
 pub mod Completeness
 pub mod Whole
-pub mod Lists
 pub mod Spelled
 pub mod Made
+pub mod Spans

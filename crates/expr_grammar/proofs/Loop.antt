@@ -1,7 +1,7 @@
 -- Reading operands, and moments, one after the other, as a loop does.
 use Rattle.std.proofs.Common.{◌≡◌, ℕ, zero, suc, ◌-◌, ◌≤◌, ◌<◌, true, false, List, [], ◌∷◌, ◌++◌, length, drop, Option, Some, None, refl, sym, ap, ◌∙◌, append_assoc, arith}
 use Rattle.std.proofs.lemmas.List.{append-nil}
-use Rattle.expr_tokens.specs.declared.token.Operator.{Operator}
+use Rattle.moment_core.specs.declared.joining.Op.{Op}
 use Rattle.expr_tokens.specs.Plain.{Token}
 use Rattle.expr_tokens.specs.Plain as tokens
 use Rattle.expr_grammar.specs.declared.fault.ParseFault.{ParseFault}
@@ -11,12 +11,12 @@ use Rattle.expr_grammar.specs.Form.{Form, Joined}
 use Rattle.expr_grammar.specs.Parsing.{◌>>=◌, Read, Fails, stands, chain_from, chain_at, with_first, moments_at, moments_end_at}
 
 -- what is left of a loop over operands gives the whole
-pub record GoesOn (operand : List Token → Read) (op : Operator) (left : Form) (rest : List Token) (total : Read) : Type 0 where
+pub record GoesOn (operand : List Token → Read) (op : Op) (left : Form) (rest : List Token) (total : Read) : Type 0 where
   pub most : ℕ
   pub enough : length rest ≤ most
   pub so_far : chain_from operand op most left rest ≡ total
 
-module _ (operand : List Token → Read) (op : Operator) where
+module _ (operand : List Token → Read) (op : Op) where
   pub fails_first : (e : ParseFault) (ts : List Token) → Fails e (operand ts) → Fails e (chain_at operand op ts)
   unfolding chain_at
   fails_first faults.Memory ts h = tt
@@ -59,14 +59,6 @@ module _ (operand : List Token → Read) (op : Operator) where
 -- the moments that were read before, and those that are still read
 abbrev pub with_front : List (Option Stamp) → Option (List (Option Stamp) × List Token) → Option (List (Option Stamp) × List Token)
 with_front front read = read >>= λ ms. Some (front ++ ms.0, ms.1)
-
-regroup : (front : List (Option Stamp)) (m : Option Stamp) (read : Option (List (Option Stamp) × List Token)) → with_front front (with_first m read) ≡ with_front (front ++ m ∷ []) read
-regroup front m (Some x) = ap (λ (ms : List (Option Stamp)). Some (ms, x.1)) (simp append_assoc)
-regroup front m None = refl
-
-pub with_front-moment : (front : List (Option Stamp)) (m : Option Stamp) (ts : List Token) → with_front front (moments_at (tokens.Comma ∷ tokens.Moment m ∷ ts)) ≡ with_front (front ++ m ∷ []) (moments_at ts)
-unfolding moments_at
-with_front-moment front m ts = regroup front m (moments_at ts)
 
 pub with_front-end : (front : List (Option Stamp)) (ts : List Token) → with_front front (moments_end_at [] ts) ≡ moments_end_at front ts
 unfolding moments_end_at

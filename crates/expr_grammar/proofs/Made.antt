@@ -2,15 +2,16 @@
 use Rattle.std.proofs.Common.{ℕ, zero, suc, List, [], ◌∷◌, ◌++◌, Option, subst}
 use Rattle.std.specs.List.{AllByRecursion}
 use Rattle.moment_core.specs.declared.line.Stamp.{Stamp}
-use Rattle.expr_tokens.specs.declared.token.Operator.{Operator}
-use Rattle.expr_tokens.specs.declared.token.Operator.TheVariants as operators
+use Rattle.moment_core.specs.declared.joining.Op.{Op}
+use Rattle.moment_core.specs.declared.joining.Op.TheVariants as operators
 use Rattle.expr_tokens.specs.Plain.{Token}
 use Rattle.expr_tokens.specs.Plain as tokens
 use Rattle.expr_grammar.specs.declared.syntax.SpanBound.{SpanBound}
-use Rattle.expr_grammar.specs.Form.{Form, Joined, Forms}
-use Rattle.expr_grammar.specs.Grammar.{Goes, ends, goes, Chain, MoreMoments, closed, more, IsLow, from_start, from_after, IsHigh, to_end, to_before, Bounds, no_bound, low_bound, high_bound, both_bounds, Leaf, empty, listed, span, Nested, leaf, brackets, inverse, IsExpr, IsAtom, Spells, one, two}
-use Rattle.expr_grammar.specs.Made.{HasMoment, BoundHas, IsMade, AreMade}
-use Rattle.expr_grammar.proofs.Lists.{all_front, all_behind}
+use Rattle.expr_grammar.specs.Fields.{fields_tokens, field_tokens}
+use Rattle.expr_grammar.specs.Form.{FieldForm, Values, Start, Form, Joined, Forms}
+use Rattle.expr_grammar.specs.Grammar.{Goes, ends, goes, Chain, MoreMoments, closed, more, IsLow, from_start, from_after, IsHigh, to_end, to_before, Bounds, no_bound, low_bound, high_bound, both_bounds, Leaf, empty, listed, span, rule, Nested, leaf, brackets, inverse, IsExpr, IsAtom, Spells, one, two}
+use Rattle.expr_grammar.specs.Made.{HasMoment, BoundHas, FieldHas, IsMade, AreMade}
+use Rattle.moment_core.proofs.Lists.{all_front, all_behind}
 
 module _ (P : Option Stamp → Type 0) where
   abbrev Dates : List Token → Type 0
@@ -38,17 +39,27 @@ module _ (P : Option Stamp → Type 0) where
   bounds_made a b ts (both_bounds x y xs ys first second) h =
       (low_made x xs first (all_front (HasMoment P) xs (tokens.Comma ∷ ys) h), high_made y ys second (all_behind (HasMoment P) xs (tokens.Comma ∷ ys) h).1)
 
+  field_made : (f : FieldForm) → Dates (field_tokens f) → FieldHas P f
+  field_made (Values key ns) h = tt
+  field_made (Start m) h = h.1.1.0
+
+  fields_made : (fields : List FieldForm) → Dates (fields_tokens fields) → AllByRecursion (FieldHas P) fields
+  fields_made [] h = tt
+  fields_made (f ∷ fields) h =
+      (field_made f (all_front (HasMoment P) (field_tokens f) (fields_tokens fields) h), fields_made fields (all_behind (HasMoment P) (field_tokens f) (fields_tokens fields) h))
+
   leaf_made : Keeps Leaf
   leaf_made t ts empty h = tt
   leaf_made t ts (listed m ms rest spelled) h = (h.1.0, more_made ms rest spelled h.1.1)
+  leaf_made t ts (rule freq fields are) h = (fields_made fields (all_front (HasMoment P) (fields_tokens fields) (tokens.Close ∷ []) h.1.1), are)
   leaf_made t ts (span a b inner spelled) h = bounds_made a b inner spelled (all_front (HasMoment P) inner (tokens.Close ∷ []) h.1.1)
 
-  goes_made : (Operand : Form → List Token → Type 0) (op : Operator) → Keeps Operand → (left t : Form) (ts : List Token) → Goes Operand op left t ts → IsMade P left → Dates ts → IsMade P t
+  goes_made : (Operand : Form → List Token → Type 0) (op : Op) → Keeps Operand → (left t : Form) (ts : List Token) → Goes Operand op left t ts → IsMade P left → Dates ts → IsMade P t
   goes_made Operand op keeps left t ts (ends _) made h = made
   goes_made Operand op keeps left t ts (goes _ b _ xs ys o others) made h =
       goes_made Operand op keeps (Joined op left b) t ys others (made, keeps b xs o (all_front (HasMoment P) xs ys h.1)) (all_behind (HasMoment P) xs ys h.1)
 
-  chain_made : (Operand : Form → List Token → Type 0) (op : Operator) → Keeps Operand → Keeps (Chain Operand op)
+  chain_made : (Operand : Form → List Token → Type 0) (op : Op) → Keeps Operand → Keeps (Chain Operand op)
   chain_made Operand op keeps t ts j h =
       let parts : Dates (j.front ++ j.others) = subst Dates j.whole h in
       goes_made Operand op keeps j.first t j.others j.goes_on (keeps j.first j.front j.begins (all_front (HasMoment P) j.front j.others parts)) (all_behind (HasMoment P) j.front j.others parts)

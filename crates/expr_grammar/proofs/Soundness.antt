@@ -2,46 +2,21 @@
 use Rattle.std.proofs.Common.{◌≡◌, eqb, ℕ, zero, suc, Bool, true, false, cond, List, [], ◌∷◌, ◌++◌, length, drop, Option, Some, None, refl, sym, ap, subst, ◌∙◌, append_assoc}
 use Rattle.std.proofs.lemmas.Bool.{eqb-true}
 use Rattle.std.proofs.lemmas.List.{append-nil, nil_from_length}
-use Rattle.expr_tokens.specs.declared.token.Operator.{Operator}
-use Rattle.expr_tokens.specs.declared.token.Operator.TheVariants as operators
+use Rattle.moment_core.specs.declared.joining.Op.{Op}
+use Rattle.moment_core.specs.declared.joining.Op.TheVariants as operators
 use Rattle.expr_tokens.specs.declared.token.Word.TheVariants as words
 use Rattle.expr_tokens.specs.Plain.{Token}
 use Rattle.expr_tokens.specs.Plain as tokens
 use Rattle.moment_core.specs.declared.line.Stamp.{Stamp}
 use Rattle.expr_grammar.specs.declared.syntax.SpanBound.{SpanBound}
 use Rattle.expr_grammar.specs.Form.{Form, Empty, Listed, Span, Joined, Inverse, Forms}
-use Rattle.expr_grammar.specs.Grammar.{Goes, ends, goes, Chain, MoreMoments, closed, more, IsLow, from_start, from_after, IsHigh, to_end, to_before, Bounds, no_bound, low_bound, high_bound, both_bounds, Leaf, empty, listed, span, Nested, leaf, brackets, inverse, IsExpr, IsAtom, Spells, one, two}
-use Rattle.expr_grammar.specs.Parsing.{◌>>=◌, Read, same, stands, chain_from, chain_at, expr_at, moments_at, list_at, close_at, high_at, high_end_at, low_end_at, span_at, leaf_at, nested_at, atom_at, second_at, program_end_at, program_at}
+use Rattle.expr_grammar.specs.Grammar.{Goes, ends, goes, Chain, MoreMoments, closed, more, IsLow, from_start, from_after, IsHigh, to_end, to_before, Bounds, no_bound, low_bound, high_bound, both_bounds, Leaf, empty, listed, span, rule, Nested, leaf, brackets, inverse, IsExpr, IsAtom, Spells, one, two}
+use Rattle.expr_grammar.specs.Parsing.{◌>>=◌, Read, same, stands, chain_from, chain_at, expr_at, moments_at, list_at, close_at, high_at, high_end_at, low_end_at, span_at, rule_at, leaf_at, nested_at, atom_at, second_at, program_end_at, program_at}
+use Rattle.expr_grammar.specs.Fields.{rule_tokens}
+use Rattle.expr_grammar.proofs.Rules.{TakesRule, rule_sound}
+use Rattle.expr_grammar.proofs.Parts.{along, bind_some, found, read_is, some_is}
 
-pub bind_some : {A B : Type 0} (o : Option A) (f : A → Option B) (y : B) → (o >>= f) ≡ Some y → (x : A) × (o ≡ Some x) × (f x ≡ Some y)
-bind_some (Some x) f y e = (x, refl, e)
-bind_some None f y e = absurd cc
-
-pub some_is : {A : Type 0} (x y : A) → Some x ≡ Some y → x ≡ y
-some_is x y e = cc
-
--- a tuple needs its type
-abbrev pub found : {A B : Type 0} → A → B → Option (A × B)
-found a b = Some (a, b)
-
-pub read_is : {A B : Type 0} (a c : A) (b d : B) → found a b ≡ Some (c, d) → (a ≡ c) × (b ≡ d)
-read_is {A} {B} a c b d e =
-    let x : A × B = (a, b) in
-    let y : A × B = (c, d) in
-    let h : x ≡ y = some_is x y e in
-    (ap (λ (p : A × B). p.0) h, ap (λ (p : A × B). p.1) h)
-
-pub pair_is : {A B : Type 0} (a : A) (b : B) (y : A × B) → found a b ≡ Some y → (a ≡ y.0) × (b ≡ y.1)
-pair_is {A} {B} a b y e =
-    let x : A × B = (a, b) in
-    let h : x ≡ y = some_is x y e in
-    (ap (λ (p : A × B). p.0) h, ap (λ (p : A × B). p.1) h)
-
--- what holds of what was read, by what it is
-pub along : {A B : Type 0} (P : A → B → Type 0) (a c : A) (b d : B) → found a b ≡ Some (c, d) → P a b → P c d
-along P a c b d e h = let q = read_is a c b d e in subst (λ (y : _). P c y) q.1 (subst (λ (x : _). P x b) q.0 h)
-
-pub same_is : (p q : Operator) → same p q ≡ true → p ≡ q
+pub same_is : (p q : Op) → same p q ≡ true → p ≡ q
 same_is operators.Union operators.Union e = refl
 same_is operators.Minus operators.Minus e = refl
 same_is operators.Meet operators.Meet e = refl
@@ -52,8 +27,8 @@ same_is operators.Minus operators.Meet e = absurd cc
 same_is operators.Meet operators.Union e = absurd cc
 same_is operators.Meet operators.Minus e = absurd cc
 
-pub stands_is : (op : Operator) (ts : List Token) → stands op ts ≡ true → ts ≡ tokens.Operator op ∷ drop 1 ts
-stands_is op (tokens.Operator next ∷ ts) e = ap (λ (o : Operator). tokens.Operator o ∷ ts) (sym (same_is op next e))
+pub stands_is : (op : Op) (ts : List Token) → stands op ts ≡ true → ts ≡ tokens.Operator op ∷ drop 1 ts
+stands_is op (tokens.Operator next ∷ ts) e = ap (λ (o : Op). tokens.Operator o ∷ ts) (sym (same_is op next e))
 stands_is op ts e = absurd cc
 
 -- the tokens are a front that spells the tree, and then the rest
@@ -66,7 +41,7 @@ pub record Takes (Spelled : Form → List Token → Type 0) (ts : List Token) (t
 abbrev pub IsSound : (Form → List Token → Type 0) → (List Token → Read) → Type 0
 IsSound Spelled read = (ts : List Token) (t : Form) (rest : List Token) → read ts ≡ Some (t, rest) → Takes Spelled ts t rest
 
-module _ (Operand : Form → List Token → Type 0) (operand : List Token → Read) (op : Operator) (sound : IsSound Operand operand) where
+module _ (Operand : Form → List Token → Type 0) (operand : List Token → Read) (op : Op) (sound : IsSound Operand operand) where
   nothing_more : (left : Form) (ts : List Token) (t : Form) (rest : List Token) → found left ts ≡ Some (t, rest) → Takes (Goes Operand op left) ts t rest
   nothing_more left ts t rest e =
       along (Takes (Goes Operand op left) ts) left t ts rest e (record { front = []; whole = refl; spelled = ends left })
@@ -232,6 +207,9 @@ span_leaf ts t rest h =
       spelled = span h.low h.high h.taken.front h.taken.spelled;
     })
 
+rule_leaf : (ts : List Token) (t : Form) (rest : List Token) → TakesRule ts t rest → Takes Leaf ts t rest
+rule_leaf ts t rest h = record { front = rule_tokens h.freq h.fields; whole = h.whole; spelled = subst (λ (y : Form). Leaf y (rule_tokens h.freq h.fields)) h.is (rule h.freq h.fields h.are) }
+
 pub leaf_sound : IsSound Leaf leaf_at
 unfolding leaf_at
 leaf_sound (tokens.Word words.Empty ∷ tokens.Open ∷ tokens.Close ∷ ts) t rest e =
@@ -242,7 +220,7 @@ leaf_sound (tokens.LeftBrace ∷ ts) t rest e =
     let y = bind_some (list_at ts) (λ ms. Some (Listed ms.0, ms.1)) (t, rest) e in
     let others = list_sound ts y.0 y.1 in
     along (Takes Leaf (tokens.LeftBrace ∷ ts)) (Listed y.0.0) t y.0.1 rest y.2 others
-leaf_sound ts t rest e = absurd cc
+leaf_sound ts t rest e = rule_leaf ts t rest (rule_sound ts t rest e)
 
 module _ (Whole Atom : Form → List Token → Type 0) (whole_at atom : List Token → Read) (whole_sound : IsSound Whole whole_at) (atom_is_sound : IsSound Atom atom) where
   leaf_case : (ts : List Token) (t : Form) (rest : List Token) → leaf_at ts ≡ Some (t, rest) → Takes (Nested Whole Atom) ts t rest

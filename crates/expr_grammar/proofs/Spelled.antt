@@ -2,17 +2,19 @@
 use Rattle.std.proofs.Common.{◌≡◌, ℕ, zero, suc, ◌≤◌, ◌<◌, Bool, true, false, List, [], ◌∷◌, ◌++◌, Option, Some, None, refl, sym, ap, arith}
 use Rattle.std.proofs.lemmas.List.{append-nil}
 use Rattle.moment_core.specs.declared.line.Stamp.{Stamp}
-use Rattle.expr_tokens.specs.declared.token.Operator.{Operator}
-use Rattle.expr_tokens.specs.declared.token.Operator.TheVariants as operators
+use Rattle.moment_core.specs.declared.joining.Op.{Op}
+use Rattle.moment_core.specs.declared.joining.Op.TheVariants as operators
 use Rattle.expr_tokens.specs.declared.token.Word.TheVariants as words
 use Rattle.expr_tokens.specs.Plain.{Token}
 use Rattle.expr_tokens.specs.Plain as tokens
 use Rattle.expr_grammar.specs.declared.syntax.SpanBound.{SpanBound}
-use Rattle.expr_grammar.specs.Form.{Form, Empty, Listed, Span, Joined, Inverse, Forms}
-use Rattle.expr_grammar.specs.Grammar.{ends, goes, Chain, MoreMoments, closed, more, IsLow, from_start, from_after, IsHigh, to_end, to_before, Bounds, no_bound, low_bound, high_bound, both_bounds, Leaf, empty, listed, span, leaf, brackets, inverse, IsExpr, IsAtom, Spells, one, two}
-use Rattle.expr_grammar.specs.Nesting.{is_joined, AsOperand, NestsWithin, height, HasNoEmptyList, in_brackets, more_tokens, low_word, high_word, bounds_tokens, spelled, spelled_second, spelled_program, IsPrintableForm, IsPrintableSecond, IsPrintable}
+use Rattle.expr_grammar.specs.Form.{Form, Empty, Listed, Span, Rule, Joined, Inverse, Forms}
+use Rattle.expr_grammar.specs.Fields.{rule_tokens}
+use Rattle.expr_grammar.specs.Grammar.{ends, goes, Chain, MoreMoments, closed, more, IsLow, from_start, from_after, IsHigh, to_end, to_before, Bounds, no_bound, low_bound, high_bound, both_bounds, Leaf, empty, listed, span, rule, leaf, brackets, inverse, IsExpr, IsAtom, Spells, one, two}
+use Rattle.expr_grammar.specs.Laws.{PrintedIsSpelled}
+use Rattle.expr_grammar.specs.Nesting.{is_joined, AsOperand, NestsWithin, height, HasTokens, in_brackets, more_tokens, low_word, high_word, bounds_tokens, spelled, spelled_second, spelled_program, IsPrintableForm, IsPrintableSecond, IsPrintable}
 
-module _ (Operand : Form → List Token → Type 0) (op : Operator) where
+module _ (Operand : Form → List Token → Type 0) (op : Op) where
   pub alone : (t : Form) (ts : List Token) → Operand t ts → Chain Operand op t ts
   alone t ts h = record { first = t; front = ts; others = []; whole = sym (append-nil ts); begins = h; goes_on = ends t }
 
@@ -32,7 +34,7 @@ module _ (Atom : Form → List Token → Type 0) where
       alone (Chain (Chain Atom operators.Meet) operators.Minus) operators.Union t ts (alone (Chain Atom operators.Meet) operators.Minus t ts (alone Atom operators.Meet t ts h))
 
   -- two atoms and an operator
-  pub joined_expr : (op : Operator) (a b : Form) (xs ys : List Token) → Atom a xs → Atom b ys → IsExpr Atom (Joined op a b) (xs ++ tokens.Operator op ∷ ys)
+  pub joined_expr : (op : Op) (a b : Form) (xs ys : List Token) → Atom a xs → Atom b ys → IsExpr Atom (Joined op a b) (xs ++ tokens.Operator op ∷ ys)
   joined_expr operators.Union a b xs ys first second =
       pair (Chain (Chain Atom operators.Meet) operators.Minus) operators.Union a b xs ys
       (alone (Chain Atom operators.Meet) operators.Minus a xs (alone Atom operators.Meet a xs first))
@@ -94,14 +96,15 @@ bounds_spelled None (Some b) = high_bound b (tokens.Word (high_word b.closed) �
 bounds_spelled (Some a) (Some b) =
     both_bounds a b (tokens.Word (low_word a.closed) ∷ tokens.Moment a.stamp ∷ []) (tokens.Word (high_word b.closed) ∷ tokens.Moment b.stamp ∷ []) (low_spelled a.closed a.stamp) (high_spelled b.closed b.stamp)
 
-pub is_spelled : (t : Form) (depth : ℕ) → HasNoEmptyList t → NestsWithin t depth → IsSpelled t depth
-unfolding spelled HasNoEmptyList NestsWithin
+pub is_spelled : (t : Form) (depth : ℕ) → HasTokens t → NestsWithin t depth → IsSpelled t depth
+unfolding spelled HasTokens NestsWithin
 is_spelled Empty depth full nests = from_atom Empty depth (leaf_atom depth Empty (tokens.Word words.Empty ∷ tokens.Open ∷ tokens.Close ∷ []) empty)
 is_spelled (Listed []) depth full nests = absurd full
 is_spelled (Listed (m ∷ ms)) depth full nests =
     from_atom (Listed (m ∷ ms)) depth (leaf_atom depth (Listed (m ∷ ms)) (tokens.LeftBrace ∷ tokens.Moment m ∷ more_tokens ms) (listed m ms (more_tokens ms) (more_spelled ms)))
 is_spelled (Span a b) depth full nests =
     from_atom (Span a b) depth (leaf_atom depth (Span a b) (tokens.Word words.Span ∷ tokens.Open ∷ bounds_tokens a b ++ tokens.Close ∷ []) (span a b (bounds_tokens a b) (bounds_spelled a b)))
+is_spelled (Rule freq fields) depth full nests = from_atom (Rule freq fields) depth (leaf_atom depth (Rule freq fields) (rule_tokens freq fields) (rule freq fields full))
 is_spelled (Joined op a b) depth full nests =
     let xs = in_brackets (is_joined a) (spelled a) in
     let ys = in_brackets (is_joined b) (spelled b) in
@@ -116,6 +119,7 @@ unfolding height
 height_positive Empty = omega arith
 height_positive (Listed ms) = omega arith
 height_positive (Span a b) = omega arith
+height_positive (Rule freq fields) = omega arith
 height_positive (Joined op a b) = omega arith
 height_positive (Inverse t) = omega arith
 
@@ -129,6 +133,7 @@ unfolding NestsWithin height
 is_shallow Empty depth le = record { alone = tt; operand = tt }
 is_shallow (Listed ms) depth le = record { alone = tt; operand = tt }
 is_shallow (Span a b) depth le = record { alone = tt; operand = tt }
+is_shallow (Rule freq fields) depth le = record { alone = tt; operand = tt }
 is_shallow (Joined op a b) zero le = absurd (omega (arith, height_positive a, le))
 is_shallow (Joined op a b) (suc depth) le =
     let left : height a ≤ suc depth = omega (arith, le) in
@@ -150,5 +155,5 @@ both_spelled : (t : Form) (u : Option Form) → IsPrintableForm t → IsPrintabl
 both_spelled t None h other = rw (append-nil (spelled t)) (one t (spelled t) (whole_spelled t h))
 both_spelled t (Some u) h other = two t u (spelled t) (spelled u) (whole_spelled t h) (whole_spelled u other)
 
-pub program_spelled : (p : Forms) → IsPrintable p → Spells p (spelled_program p)
+pub program_spelled : PrintedIsSpelled
 program_spelled p h = both_spelled p.first p.second h.0 h.1

@@ -1,5 +1,5 @@
 -- The clauses of the reader, from what reading gives.
-use Rattle.std.proofs.Common.{List, Result, Ok, Err}
+use Rattle.std.proofs.Common.{◌≡◌, ◌⊎◌, inl, inr, List, Option, Some, None, Result, Ok, Err, refl}
 use Rattle.std.specs.Prelude.{IfOk, IsErrOf}
 use Rattle.expr_tokens.specs.Plain.{Token}
 use Rattle.expr_grammar.specs.declared.fault.ParseFault.{ParseFault}
@@ -8,6 +8,7 @@ use Rattle.expr_grammar.specs.declared.syntax.SyntaxTrees.{SyntaxTrees}
 use Rattle.expr_grammar.specs.Form.{Forms}
 use Rattle.expr_grammar.specs.Syntax.{forms_of}
 use Rattle.expr_grammar.specs.Grammar.{Spells}
+use Rattle.expr_grammar.specs.Laws.{SpellOrNot}
 use Rattle.expr_grammar.specs.Parsing.{Gives, program_at}
 use Rattle.expr_grammar.proofs.Soundness.{program_sound}
 use Rattle.expr_grammar.proofs.Completeness.{program_complete}
@@ -20,3 +21,10 @@ pub is_syntax : (ts : List Token) (r : Result SyntaxTrees ParseFault) → Gives 
 is_syntax ts (Ok p) given e q spelled = cc
 is_syntax ts (Err faults.Memory) given e q spelled = cc
 is_syntax ts (Err faults.Syntax) given e q spelled = let h = program_complete q ts spelled in cc
+
+pub spell_or_not : SpellOrNot
+spell_or_not ts = by_reading (program_at ts) refl
+  where
+    by_reading : (o : Option Forms) → program_at ts ≡ o → ((p : Forms) × Spells p ts) ⊎ ((p : Forms) → Spells p ts → ⊥)
+    by_reading (Some p) e = inl (p, program_sound ts p e)
+    by_reading None e = inr (λ p spelled. let d = program_complete p ts spelled in absurd cc)

@@ -1,15 +1,23 @@
 -- Expressions as they are written, with what their tokens held.
-use Rattle.std.specs.Prelude.{List, Option}
+use Rattle.std.specs.Prelude.{ℤ, List, Option}
+use Rattle.moment_core.specs.declared.joining.Op.{Op}
 use Rattle.moment_core.specs.declared.line.Stamp.{Stamp}
-use Rattle.expr_tokens.specs.declared.token.Operator.{Operator}
+use Rattle.rule_core.specs.declared.part.Freq.{Freq}
+use Rattle.expr_grammar.specs.declared.syntax.Key.{Key}
 use Rattle.expr_grammar.specs.declared.syntax.SpanBound.{SpanBound}
 
--- A listed moment is the stamp of its literal, or None where the literal names no moment of the calendar range.
+-- a key and its numbers, or `start` and the stamp of its literal
+pub data FieldForm : Type 0 where
+  Values : (key : Key) (values : List ℤ) → FieldForm
+  Start : (stamp : Option Stamp) → FieldForm
+
+-- A moment is the stamp of its literal, or None where the literal names no moment of the calendar range.
 pub data Form : Type 0 where
   Empty : Form
   Listed : (moments : List (Option Stamp)) → Form
   Span : (low high : Option SpanBound) → Form
-  Joined : (op : Operator) (a b : Form) → Form
+  Rule : (freq : Freq) (fields : List FieldForm) → Form
+  Joined : (op : Op) (a b : Form) → Form
   Inverse : (a : Form) → Form
 
 -- one expression, or two

@@ -1,22 +1,24 @@
 -- Which tokens spell an expression, by the cases of the grammar.
 use Rattle.std.specs.Prelude.{◌≡◌, ℕ, zero, suc, true, false, List, [], ◌∷◌, ◌++◌, Option, Some, None}
 use Rattle.moment_core.specs.declared.line.Stamp.{Stamp}
-use Rattle.expr_tokens.specs.declared.token.Operator.{Operator}
-use Rattle.expr_tokens.specs.declared.token.Operator.TheVariants as operators
+use Rattle.moment_core.specs.declared.joining.Op.{Op}
+use Rattle.moment_core.specs.declared.joining.Op.TheVariants as operators
+use Rattle.rule_core.specs.declared.part.Freq.{Freq}
 use Rattle.expr_tokens.specs.declared.token.Word.TheVariants as words
 use Rattle.expr_tokens.specs.Plain.{Token}
 use Rattle.expr_tokens.specs.Plain as tokens
 use Rattle.expr_grammar.specs.declared.syntax.SpanBound.{SpanBound}
-use Rattle.expr_grammar.specs.Form.{Form, Empty, Listed, Span, Joined, Inverse, Forms}
+use Rattle.expr_grammar.specs.Form.{FieldForm, Form, Empty, Listed, Span, Rule, Joined, Inverse, Forms}
+use Rattle.expr_grammar.specs.Fields.{AreFields, rule_tokens}
 
 -- { op operand }, each joined to what stands to its left
-pub data Goes (Operand : Form → List Token → Type 0) (op : Operator) : Form → Form → List Token → Type 0 where
+pub data Goes (Operand : Form → List Token → Type 0) (op : Op) : Form → Form → List Token → Type 0 where
   ends : (t : Form) → Goes Operand op t t []
   goes : (left b t : Form) (xs ys : List Token) → Operand b xs → Goes Operand op (Joined op left b) t ys
       → Goes Operand op left t (tokens.Operator op ∷ xs ++ ys)
 
 -- operand { op operand }
-pub record Chain (Operand : Form → List Token → Type 0) (op : Operator) (t : Form) (ts : List Token) : Type 0 where
+pub record Chain (Operand : Form → List Token → Type 0) (op : Op) (t : Form) (ts : List Token) : Type 0 where
   pub first : Form
   pub front : List Token
   pub others : List Token
@@ -58,6 +60,7 @@ pub data Leaf : Form → List Token → Type 0 where
       → Leaf (Listed (m ∷ ms)) (tokens.LeftBrace ∷ tokens.Moment m ∷ ts)
   span : (a b : Option SpanBound) (ts : List Token) → Bounds a b ts
       → Leaf (Span a b) (tokens.Word words.Span ∷ tokens.Open ∷ ts ++ tokens.Close ∷ [])
+  rule : (freq : Freq) (fields : List FieldForm) → AreFields fields → Leaf (Rule freq fields) (rule_tokens freq fields)
 
 -- An atom. Whole says what stands within one more pair of brackets, and Atom what stands behind one more sign.
 pub data Nested (Whole Atom : Form → List Token → Type 0) : Form → List Token → Type 0 where
@@ -75,3 +78,6 @@ pub data Spells : Forms → List Token → Type 0 where
   one : (t : Form) (ts : List Token) → IsExpr (IsAtom 128) t ts → Spells (record { first = t; second = None }) ts
   two : (t u : Form) (ts us : List Token) → IsExpr (IsAtom 128) t ts → IsExpr (IsAtom 128) u us
       → Spells (record { first = t; second = Some u }) (ts ++ tokens.Semicolon ∷ us)
+
+abbrev pub SpellNothing : List Token → Type 0
+SpellNothing ts = (p : Forms) → Spells p ts → ⊥

@@ -1,7 +1,10 @@
 pub mod Form
+pub mod Fields
 pub mod Syntax
 pub mod Grammar
 pub mod Parsing
 pub mod Moments
 pub mod Nesting
 pub mod Made
+pub mod Spans
+pub mod Laws

@@ -6,7 +6,8 @@ use Rattle.expr_tokens.specs.declared.token.Word.TheVariants as words
 use Rattle.expr_tokens.specs.Plain.{Token}
 use Rattle.expr_tokens.specs.Plain as tokens
 use Rattle.expr_grammar.specs.declared.syntax.SpanBound.{SpanBound}
-use Rattle.expr_grammar.specs.Form.{Form, Empty, Listed, Span, Joined, Inverse, Forms}
+use Rattle.expr_grammar.specs.Fields.{AreFields, rule_tokens}
+use Rattle.expr_grammar.specs.Form.{Form, Empty, Listed, Span, Rule, Joined, Inverse, Forms}
 
 -- An operand that is itself joined by an operator stands in brackets.
 abbrev pub is_joined : Form → Bool
@@ -26,6 +27,7 @@ unfoldable pub NestsWithin : Form → ℕ → Type 0
 NestsWithin Empty depth = Unit {0}
 NestsWithin (Listed ms) depth = Unit {0}
 NestsWithin (Span low high) depth = Unit {0}
+NestsWithin (Rule freq fields) depth = Unit {0}
 NestsWithin (Joined op a b) depth = AsOperand (is_joined a) (NestsWithin a) depth × AsOperand (is_joined b) (NestsWithin b) depth
 NestsWithin (Inverse t) depth = OneDeeper (AsOperand (is_joined t) (NestsWithin t)) depth
 
@@ -34,17 +36,19 @@ unfoldable pub height : Form → ℕ
 height Empty = 1
 height (Listed ms) = 1
 height (Span low high) = 1
+height (Rule freq fields) = 1
 height (Joined op a b) = suc (max (height a) (height b))
 height (Inverse t) = suc (height t)
 
--- no list is empty
-unfoldable pub HasNoEmptyList : Form → Type 0
-HasNoEmptyList Empty = Unit {0}
-HasNoEmptyList (Listed []) = ⊥
-HasNoEmptyList (Listed (m ∷ ms)) = Unit {0}
-HasNoEmptyList (Span low high) = Unit {0}
-HasNoEmptyList (Joined op a b) = HasNoEmptyList a × HasNoEmptyList b
-HasNoEmptyList (Inverse t) = HasNoEmptyList t
+-- no list is empty, and each rule has its numbers and each key once
+unfoldable pub HasTokens : Form → Type 0
+HasTokens Empty = Unit {0}
+HasTokens (Listed []) = ⊥
+HasTokens (Listed (m ∷ ms)) = Unit {0}
+HasTokens (Span low high) = Unit {0}
+HasTokens (Rule freq fields) = AreFields fields
+HasTokens (Joined op a b) = HasTokens a × HasTokens b
+HasTokens (Inverse t) = HasTokens t
 
 abbrev pub in_brackets : Bool → List Token → List Token
 in_brackets true ts = tokens.Open ∷ ts ++ tokens.Close ∷ []
@@ -76,6 +80,7 @@ bounds_tokens (Some a) (Some b) = tokens.Word (low_word a.closed) ∷ tokens.Mom
 unfoldable pub spelled : Form → List Token
 spelled Empty = tokens.Word words.Empty ∷ tokens.Open ∷ tokens.Close ∷ []
 spelled (Listed ms) = tokens.LeftBrace ∷ list_tokens ms
+spelled (Rule freq fields) = rule_tokens freq fields
 spelled (Span low high) = tokens.Word words.Span ∷ tokens.Open ∷ bounds_tokens low high ++ tokens.Close ∷ []
 spelled (Joined op a b) = in_brackets (is_joined a) (spelled a) ++ tokens.Operator op ∷ in_brackets (is_joined b) (spelled b)
 spelled (Inverse t) = tokens.Exclamation ∷ in_brackets (is_joined t) (spelled t)
@@ -88,12 +93,12 @@ abbrev pub spelled_program : Forms → List Token
 spelled_program p = spelled p.first ++ spelled_second p.second
 
 abbrev pub IsPrintableForm : Form → Type 0
-IsPrintableForm t = HasNoEmptyList t × (height t ≤ 128)
+IsPrintableForm t = HasTokens t × (height t ≤ 128)
 
 abbrev pub IsPrintableSecond : Option Form → Type 0
 IsPrintableSecond None = Unit {0}
 IsPrintableSecond (Some t) = IsPrintableForm t
 
--- no list is empty, and each expression is at most 128 high
+-- no list is empty, rules have each key once and its numbers, and each expression is at most 128 high
 abbrev pub IsPrintable : Forms → Type 0
 IsPrintable p = IsPrintableForm p.first × IsPrintableSecond p.second

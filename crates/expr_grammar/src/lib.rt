@@ -2,9 +2,12 @@
 #![tactic(auto)]
 
 mod fault;
+mod fields;
+mod laws;
 mod parser;
 mod syntax;
 
 pub use fault::ParseFault;
-pub use parser::{one_program, parse, printed_is_spelled};
-pub use syntax::{SpanBound, SyntaxTree, SyntaxTrees};
+pub use laws::grammar_laws;
+pub use parser::parse;
+pub use syntax::{Field, Key, SpanBound, SyntaxTree, SyntaxTrees};

@@ -1,20 +1,20 @@
 ghost use Rattle.std.specs.Prelude.{◌≡◌, ◌<◌, ◌≤◌, ◌∷◌, ◌++◌, length, List, drop, true, false, IfOk, IfNone, IfSome, OnSome, Some, IsErrOf};
-ghost use Rattle.expr_tokens.specs.Plain.{Token as PlainToken, plains};
+ghost use Rattle.expr_tokens.specs.Plain.{plains};
 ghost use Rattle.expr_grammar.specs.Form.{Form, Forms, Listed, Span};
-ghost use Rattle.expr_grammar.specs.Syntax.{form_of, forms_of, places_of, all_places_of, span_places};
+ghost use Rattle.expr_grammar.specs.Syntax.{HasPlaces, KeepsPlaces, form_of, forms_of, places_of, all_places_of, span_places};
 ghost use Rattle.expr_grammar.specs.Moments.{IsNext};
-ghost use Rattle.expr_grammar.specs.Grammar.{Spells};
-ghost use Rattle.expr_grammar.specs.Nesting.{IsPrintable, spelled_program};
-ghost use Rattle.expr_grammar.specs.Parsing.{Gives, stands, moment_at, list_at, moments_at, moments_end_at, with_first, close_at, high_at, high_end_at, low_end_at, span_at, leaf_at, atom_at, expr_at, nested_at, operand_at, chain_at, program_end_at, program_at, second_at};
+ghost use Rattle.expr_grammar.specs.Grammar.{SpellNothing, Spells};
+ghost use Rattle.expr_grammar.specs.Parsing.{Gives, ReadsMoments, ReadsTree, deeper_at, operands_at, stands, moment_at, list_at, moments_at, moments_end_at, with_first, close_at, high_at, high_end_at, low_end_at, span_at, leaf_at, atom_at, expr_at, nested_at, operand_at, chain_at, program_end_at, program_at, second_at};
 
 use crate::fault::ParseFault;
+use crate::fields::rule;
 use crate::syntax::{SpanBound, SyntaxTree, SyntaxTrees, inverse, joined, spanned};
-use expr_tokens::{Operator, Token, Word};
-use moment_core::Stamp;
+use expr_tokens::{Token, Word};
+use moment_core::{Op, Stamp};
 use std::alloc::Global;
 
 /// The tokens behind the operator, where it stands next.
-fn behind<'t, 'a>(op: Operator, tokens: &'t [Token<'a>]) -> Option<&'t [Token<'a>]>
+fn behind<'t, 'a>(op: Op, tokens: &'t [Token<'a>]) -> Option<&'t [Token<'a>]>
     ensures none { IfNone result (stands op (plains tokens.now) ≡ false) }
     ensures some { OnSome result (stands op (plains tokens.now) ≡ true) }
     ensures rest { IfSome result (λ after. plains after.now ≡ drop 1 (plains tokens.now)) }
@@ -45,7 +45,7 @@ fn moments_end<'t, 'a>(
     found: Vec<Option<Stamp>>,
     tokens: &'t [Token<'a>],
 ) -> Result<(Vec<Option<Stamp>>, &'t [Token<'a>]), ParseFault>
-    ensures read { Gives (λ x. (x.0.items, plains x.1.now)) result (moments_end_at found.items (plains tokens.now)) }
+    ensures read { ReadsMoments result (moments_end_at found.items (plains tokens.now)) }
     ensures places { IfOk result (λ x. span_places tokens.now ≡ span_places x.1.now) }
     ensures shorter { IfOk result (λ x. length x.1.now ≤ length tokens.now) }
 {
@@ -74,7 +74,7 @@ fn moments<'t, 'a>(
     alloc: Global,
     tokens: &'t [Token<'a>],
 ) -> Result<(Vec<Option<Stamp>>, &'t [Token<'a>]), ParseFault>
-    ensures read { Gives (λ x. (x.0.items, plains x.1.now)) result (list_at (plains tokens.now)) }
+    ensures read { ReadsMoments result (list_at (plains tokens.now)) }
     ensures places { IfOk result (λ x. span_places tokens.now ≡ span_places x.1.now) }
     ensures shorter { IfOk result (λ x. length x.1.now ≤ length tokens.now) }
 {
@@ -89,12 +89,12 @@ fn moments<'t, 'a>(
 }
 
 #[tactic(auto, unfolding(crate::specs::Parsing::close_at))]
-fn close<'t, 'a>(
+pub(crate) fn close<'t, 'a>(
     whole: SyntaxTree,
     tokens: &'t [Token<'a>],
 ) -> Result<(SyntaxTree, &'t [Token<'a>]), ParseFault>
-    ensures read { Gives (λ x. (form_of x.0, plains x.1.now)) result (close_at (form_of whole) (plains tokens.now)) }
-    ensures places { IfOk result (λ x. places_of whole ++ span_places tokens.now ≡ places_of x.0 ++ span_places x.1.now) }
+    ensures read { ReadsTree result (close_at (form_of whole) (plains tokens.now)) }
+    ensures places { IfOk result (KeepsPlaces (places_of whole ++ span_places tokens.now)) }
     ensures shorter { IfOk result (λ x. length x.1.now ≤ length tokens.now) }
 {
     match tokens {
@@ -131,8 +131,8 @@ fn high_end<'t, 'a>(
     low: Option<SpanBound>,
     tokens: &'t [Token<'a>],
 ) -> Result<(SyntaxTree, &'t [Token<'a>]), ParseFault>
-    ensures read { Gives (λ x. (form_of x.0, plains x.1.now)) result (high_end_at low (plains tokens.now)) }
-    ensures places { IfOk result (λ x. place ∷ span_places tokens.now ≡ places_of x.0 ++ span_places x.1.now) }
+    ensures read { ReadsTree result (high_end_at low (plains tokens.now)) }
+    ensures places { IfOk result (KeepsPlaces (place ∷ span_places tokens.now)) }
     ensures shorter { IfOk result (λ x. length x.1.now ≤ length tokens.now) }
 {
     let (high, rest) = high(tokens)?;
@@ -146,8 +146,8 @@ fn low_end<'t, 'a>(
     low: SpanBound,
     tokens: &'t [Token<'a>],
 ) -> Result<(SyntaxTree, &'t [Token<'a>]), ParseFault>
-    ensures read { Gives (λ x. (form_of x.0, plains x.1.now)) result (low_end_at low (plains tokens.now)) }
-    ensures places { IfOk result (λ x. place ∷ span_places tokens.now ≡ places_of x.0 ++ span_places x.1.now) }
+    ensures read { ReadsTree result (low_end_at low (plains tokens.now)) }
+    ensures places { IfOk result (KeepsPlaces (place ∷ span_places tokens.now)) }
     ensures shorter { IfOk result (λ x. length x.1.now ≤ length tokens.now) }
 {
     match tokens {
@@ -162,8 +162,8 @@ fn span<'t, 'a>(
     place: usize,
     tokens: &'t [Token<'a>],
 ) -> Result<(SyntaxTree, &'t [Token<'a>]), ParseFault>
-    ensures read { Gives (λ x. (form_of x.0, plains x.1.now)) result (span_at (plains tokens.now)) }
-    ensures places { IfOk result (λ x. place ∷ span_places tokens.now ≡ places_of x.0 ++ span_places x.1.now) }
+    ensures read { ReadsTree result (span_at (plains tokens.now)) }
+    ensures places { IfOk result (KeepsPlaces (place ∷ span_places tokens.now)) }
     ensures shorter { IfOk result (λ x. length x.1.now ≤ length tokens.now) }
 {
     match tokens {
@@ -200,8 +200,8 @@ fn leaf<'t, 'a>(
     alloc: Global,
     tokens: &'t [Token<'a>],
 ) -> Result<(SyntaxTree, &'t [Token<'a>]), ParseFault>
-    ensures read { Gives (λ x. (form_of x.0, plains x.1.now)) result (leaf_at (plains tokens.now)) }
-    ensures places { IfOk result (λ x. span_places tokens.now ≡ places_of x.0 ++ span_places x.1.now) }
+    ensures read { ReadsTree result (leaf_at (plains tokens.now)) }
+    ensures places { IfOk result (KeepsPlaces (span_places tokens.now)) }
     ensures shorter { IfOk result (λ x. length x.1.now ≤ length tokens.now) }
 {
     match tokens {
@@ -216,7 +216,7 @@ fn leaf<'t, 'a>(
             let (found, rest) = moments(alloc, rest)?;
             Ok((SyntaxTree::List(found), rest))
         }
-        _ => Err(ParseFault::Syntax),
+        _ => rule(alloc, tokens),
     }
 }
 
@@ -227,8 +227,8 @@ fn atom<'t, 'a>(
     tokens: &'t [Token<'a>],
     depth: u8,
 ) -> Result<(SyntaxTree, &'t [Token<'a>]), ParseFault>
-    ensures read { Gives (λ x. (form_of x.0, plains x.1.now)) result (atom_at depth (plains tokens.now)) }
-    ensures places { IfOk result (λ x. span_places tokens.now ≡ places_of x.0 ++ span_places x.1.now) }
+    ensures read { ReadsTree result (atom_at depth (plains tokens.now)) }
+    ensures places { IfOk result (KeepsPlaces (span_places tokens.now)) }
     ensures shorter { IfOk result (λ x. length x.1.now ≤ length tokens.now) }
 {
     if depth == 0 {
@@ -246,13 +246,13 @@ fn nested<'t, 'a>(
     tokens: &'t [Token<'a>],
     depth: u8,
 ) -> Result<(SyntaxTree, &'t [Token<'a>]), ParseFault>
-    ensures read { Gives (λ x. (form_of x.0, plains x.1.now)) result (nested_at (expr_at (atom_at depth)) (atom_at depth) (plains tokens.now)) }
-    ensures places { IfOk result (λ x. span_places tokens.now ≡ places_of x.0 ++ span_places x.1.now) }
+    ensures read { ReadsTree result (deeper_at depth (plains tokens.now)) }
+    ensures places { IfOk result (KeepsPlaces (span_places tokens.now)) }
     ensures shorter { IfOk result (λ x. length x.1.now ≤ length tokens.now) }
 {
     match tokens {
         [Token::Open, inner @ ..] => {
-            let (whole, rest) = chain(alloc, Operator::Union, inner, depth)?;
+            let (whole, rest) = chain(alloc, Op::Union, inner, depth)?;
             close(whole, rest)
         }
         [Token::Exclamation, inner @ ..] => {
@@ -267,18 +267,18 @@ fn nested<'t, 'a>(
 #[cycle(expression)]
 fn operand<'t, 'a>(
     alloc: Global,
-    op: Operator,
+    op: Op,
     tokens: &'t [Token<'a>],
     depth: u8,
 ) -> Result<(SyntaxTree, &'t [Token<'a>]), ParseFault>
-    ensures read { Gives (λ x. (form_of x.0, plains x.1.now)) result (operand_at (atom_at depth) op (plains tokens.now)) }
-    ensures places { IfOk result (λ x. span_places tokens.now ≡ places_of x.0 ++ span_places x.1.now) }
+    ensures read { ReadsTree result (operand_at (atom_at depth) op (plains tokens.now)) }
+    ensures places { IfOk result (KeepsPlaces (span_places tokens.now)) }
     ensures shorter { IfOk result (λ x. length x.1.now ≤ length tokens.now) }
 {
     match op {
-        Operator::Meet => atom(alloc, tokens, depth),
-        Operator::Minus => chain(alloc, Operator::Meet, tokens, depth),
-        Operator::Union => chain(alloc, Operator::Minus, tokens, depth),
+        Op::Meet => atom(alloc, tokens, depth),
+        Op::Minus => chain(alloc, Op::Meet, tokens, depth),
+        Op::Union => chain(alloc, Op::Minus, tokens, depth),
     }
 }
 
@@ -286,12 +286,12 @@ fn operand<'t, 'a>(
 #[cycle(expression)]
 fn chain<'t, 'a>(
     alloc: Global,
-    op: Operator,
+    op: Op,
     tokens: &'t [Token<'a>],
     depth: u8,
 ) -> Result<(SyntaxTree, &'t [Token<'a>]), ParseFault>
-    ensures read { Gives (λ x. (form_of x.0, plains x.1.now)) result (chain_at (operand_at (atom_at depth) op) op (plains tokens.now)) }
-    ensures places { IfOk result (λ x. span_places tokens.now ≡ places_of x.0 ++ span_places x.1.now) }
+    ensures read { ReadsTree result (operands_at depth op (plains tokens.now)) }
+    ensures places { IfOk result (KeepsPlaces (span_places tokens.now)) }
     ensures shorter { IfOk result (λ x. length x.1.now ≤ length tokens.now) }
 {
     let (mut left, mut rest) = operand(alloc, op, tokens, depth)?;
@@ -310,10 +310,10 @@ fn expression<'t, 'a>(
     alloc: Global,
     tokens: &'t [Token<'a>],
 ) -> Result<(SyntaxTree, &'t [Token<'a>]), ParseFault>
-    ensures read { Gives (λ x. (form_of x.0, plains x.1.now)) result (expr_at (atom_at DEPTH) (plains tokens.now)) }
-    ensures places { IfOk result (λ x. span_places tokens.now ≡ places_of x.0 ++ span_places x.1.now) }
+    ensures read { ReadsTree result (expr_at (atom_at DEPTH) (plains tokens.now)) }
+    ensures places { IfOk result (KeepsPlaces (span_places tokens.now)) }
 {
-    chain(alloc, Operator::Union, tokens, DEPTH)
+    chain(alloc, Op::Union, tokens, DEPTH)
 }
 
 #[tactic(auto, unfolding(crate::specs::Parsing::second_at))]
@@ -323,7 +323,7 @@ fn second<'t, 'a>(
     tokens: &'t [Token<'a>],
 ) -> Result<SyntaxTrees, ParseFault>
     ensures read { Gives forms_of result (second_at (form_of first) (plains tokens.now)) }
-    ensures places { IfOk result (λ p. places_of first ++ span_places tokens.now ≡ all_places_of p) }
+    ensures places { IfOk result (HasPlaces (places_of first ++ span_places tokens.now)) }
 {
     let (other, rest) = expression(alloc, tokens)?;
     if !rest.is_empty() {
@@ -342,7 +342,7 @@ fn program_end<'t, 'a>(
     tokens: &'t [Token<'a>],
 ) -> Result<SyntaxTrees, ParseFault>
     ensures read { Gives forms_of result (program_end_at (form_of first) (plains tokens.now)) }
-    ensures places { IfOk result (λ p. places_of first ++ span_places tokens.now ≡ all_places_of p) }
+    ensures places { IfOk result (HasPlaces (places_of first ++ span_places tokens.now)) }
 {
     match tokens {
         [] => Ok(SyntaxTrees {
@@ -369,20 +369,10 @@ pub fn parse<'t, 'a>(alloc: Global, tokens: &'t [Token<'a>]) -> Result<SyntaxTre
     ensures spelled { IfOk result (λ p. Spells (forms_of p) (plains tokens.now)) }
     ensures places { IfOk result (λ p. all_places_of p ≡ span_places tokens.now) }
     // `Syntax` comes only where the tokens spell nothing.
-    ensures syntax { IsErrOf result ParseFault.Syntax → (p : Forms) → Spells p (plains tokens.now) → ⊥ }
+    ensures syntax { IsErrOf result ParseFault.Syntax → SpellNothing (plains tokens.now) }
 {
     program(alloc, tokens)
 }
-
-/// No tokens spell two programs.
-pub fn one_program()
-    ensures { (p q : Forms) (ts : List PlainToken) → Spells p ts → Spells q ts → p ≡ q }
-{}
-
-/// The tokens of the printed form spell the program, where no list is empty and each expression is at most 128 high.
-pub fn printed_is_spelled()
-    ensures { (p : Forms) → IsPrintable p → Spells p (spelled_program p) }
-{}
 
 #[cfg(test)]
 mod tests {

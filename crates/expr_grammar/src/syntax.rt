@@ -2,8 +2,8 @@ ghost use Rattle.std.specs.Prelude.{◌≡◌, [], ◌∷◌, ◌++◌, IfOk};
 ghost use Rattle.expr_grammar.specs.Form.{Inverse, Joined, Span};
 ghost use Rattle.expr_grammar.specs.Syntax.{form_of, places_of};
 
-use expr_tokens::Operator;
-use moment_core::Stamp;
+use moment_core::{Op, Stamp};
+use rule_core::Freq;
 use std::alloc::{AllocError, Global};
 
 /// A bound of a span as it was written: closed by `start` or `end`, open by `after` or `before`.
@@ -12,6 +12,28 @@ pub struct SpanBound {
     pub closed: bool,
     /// None where the literal names no moment of the calendar range.
     pub stamp: Option<Stamp>,
+}
+
+/// A key of a rule's field that has numbers.
+#[derive(Clone, Copy, Debug, PartialEq, Eq)]
+pub enum Key {
+    Months,
+    Weeks,
+    Days,
+    Hours,
+    Minutes,
+    Seconds,
+    Interval,
+    WeekStart,
+}
+
+/// A field of a rule as it was written.
+#[derive(Debug, Drop)]
+pub enum Field {
+    /// `days=1,-1`: a key and its numbers, of which `interval` and `week_start` have just one.
+    Values(Key, Vec<i64>),
+    /// `start=..`, with None where the literal names no moment of the calendar range.
+    Start(Option<Stamp>),
 }
 
 /// An expression as it was written, with what its tokens held.
@@ -28,8 +50,13 @@ pub enum SyntaxTree {
         low: Option<SpanBound>,
         high: Option<SpanBound>,
     },
+    /// `weekly( .. )` and its like, with the fields in the order of the text and each key at most once.
+    Rule {
+        freq: Freq,
+        fields: Vec<Field>,
+    },
     /// Two expressions and the operator between them.
-    Joined(Operator, Box<SyntaxTree>, Box<SyntaxTree>),
+    Joined(Op, Box<SyntaxTree>, Box<SyntaxTree>),
     /// `!` before an expression.
     Inverse(Box<SyntaxTree>),
 }
@@ -46,6 +73,7 @@ impl Drop for SyntaxTree {
                     low: _,
                     high: _,
                 } => return,
+                SyntaxTree::Rule { freq: _, fields: _ } => return,
                 SyntaxTree::Joined(_, left, _) => self = Box::into_inner(left),
                 SyntaxTree::Inverse(inner) => self = Box::into_inner(inner),
             }
@@ -71,7 +99,7 @@ pub(crate) fn spanned(place: usize, low: Option<SpanBound>, high: Option<SpanBou
 /// Two expressions joined by the operator.
 pub(crate) fn joined(
     alloc: Global,
-    op: Operator,
+    op: Op,
     a: SyntaxTree,
     b: SyntaxTree,
 ) -> Result<SyntaxTree, AllocError>

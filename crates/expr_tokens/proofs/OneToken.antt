@@ -1,15 +1,13 @@
 -- How the bytes of each kind of token are read, whatever may stand behind them.
-use Rattle.std.proofs.Common.{◌≡◌, ℕ, suc, ◌≤◌, ◌<◌, pos, Bool, true, false, cond, ◌&&◌, ◌||◌, ◌⊎◌, inl, inr, List, [], ◌∷◌, ◌++◌, length, take, drop, Option, Some, None, refl, sym, ap, subst, ◌∙◌, append_assoc, arith}
+use Rattle.std.proofs.Common.{◌≡◌, ℕ, suc, ◌≤◌, ◌<◌, pos, Bool, true, false, cond, ◌&&◌, ◌⊎◌, inl, inr, List, [], ◌∷◌, ◌++◌, length, take, drop, Option, Some, None, refl, sym, ap, subst, ◌∙◌, append_assoc, arith}
 use Rattle.std.specs.Prelude.{nat_le, ◌==◌, codes}
 use Rattle.std.proofs.Math.Seq.{take-append_seam, drop-append_seam}
 use Rattle.std.proofs.lemmas.List.{take-append-drop}
 use Rattle.std.specs.List.{list_all}
 use Rattle.std.proofs.lemmas.Bool.{le-leb, leb-true, and_parts, and_from, or_cases, cases_Bool, cases_lt, eqb-true, false_from_ne_true, or_left, or_right, false≢true, both_ways}
 use Rattle.std.proofs.lemmas.Bool.Decides.{nat_tests}
-use Rattle.moment_text.specs.Laws.{begins_with_zone}
+use Rattle.moment_text.specs.Laws.{FrontsAreLongest, ShapedTextsHaveForms, ShapesEnd, begins_with_zone}
 use Rattle.moment_text.specs.Literal.{fits, has_form, form_of, zone_text, is_shaped, shaped_front}
-use Rattle.moment_text.proofs.Fronts.{shape_of}
-use Rattle.moment_text.proofs.Shapes.{longest_front, shapes_end}
 use Rattle.expr_tokens.specs.declared.class.Class.TheVariants as classes
 use Rattle.expr_tokens.specs.Plain.{Token}
 use Rattle.expr_tokens.specs.Plain as tokens
@@ -17,6 +15,7 @@ use Rattle.expr_tokens.specs.Class.{holds, front_of, behind, passes_first}
 use Rattle.expr_tokens.specs.Names.{word_of}
 use Rattle.expr_tokens.specs.Reading.{begins_digit, begins_number, digits_of, value_from, signed, named, number_at, name_at, quote_at, text_at, sign_of, signed_at, figures_at, token_at}
 use Rattle.expr_tokens.specs.Stamps.{stamp_of}
+use Rattle.expr_tokens.specs.Laws.{goes_on}
 use Rattle.expr_tokens.specs.Longest.{AreDigits}
 use Rattle.expr_tokens.proofs.Runs.{run_and_rest}
 use Rattle.expr_tokens.proofs.Stamps.{moment_there}
@@ -186,13 +185,6 @@ either_year : (minus absolute : Bool) (front others : List ℕ) → has_form (fo
 either_year false absolute front others h = inl (year_dashed absolute front others h)
 either_year true absolute front others h = signed_year absolute front others h
 
-pub begins_year : (front others : List ℕ) → is_shaped front ≡ true → BeginsYear front others
-begins_year front others h = let shape = shape_of front h in either_year shape.0 shape.1 front others shape.2
-
--- what may not stand behind a number
-abbrev pub goes_on : List ℕ → Bool
-goes_on rest = passes_first (λ b. holds classes.Digit b || b == 45) rest
-
 stops : (rest : List ℕ) → goes_on rest ≡ false → (begins_digit rest ≡ false) × (passes_first (λ b. b == 45) rest ≡ false)
 stops [] h = (refl, refl)
 stops (b ∷ rest) h = (false_from_ne_true _ (λ e. both_ways _ h (rw e refl)), false_from_ne_true _ (λ e. both_ways _ h (or_right _ _ e)))
@@ -203,12 +195,6 @@ not_dashed n digits rest each stop dashed =
     let run = run_and_rest (holds classes.Digit) digits rest each stop.0 in
     both_ways (passes_first (λ b. b == 45) rest) stop.1 (rw run.1 at dashed.dash)
 
-no_literal : (bytes : List ℕ) → ((front others : List ℕ) → bytes ≡ front ++ others → is_shaped front ≡ true → ⊥) → shaped_front bytes ≡ 0
-no_literal bytes none = elim (cases_lt 0 (shaped_front bytes)) [
-  | inl some ↦ absurd (none (take (shaped_front bytes) bytes) (drop (shaped_front bytes) bytes) (sym (take-append-drop (shaped_front bytes) bytes)) ((longest_front bytes).shaped some))
-  | inr le ↦ omega (arith, le)
-]
-
 minus_not_digit : (digits tail rest others : List ℕ) → list_all (holds classes.Digit) digits ≡ true → 0 < length digits → digits ++ rest ≡ 45 ∷ tail ++ others → ⊥
 minus_not_digit [] tail rest others each some e = absurd (omega arith)
 minus_not_digit (d ∷ digits) tail rest others each some e =
@@ -216,62 +202,17 @@ minus_not_digit (d ∷ digits) tail rest others each some e =
     let is : d ≡ 45 = cc in
     both_ways (d == 45) digit.minus (rw is refl)
 
-number_no_literal : (digits rest : List ℕ) → AreDigits digits → goes_on rest ≡ false → (front others : List ℕ) → digits ++ rest ≡ front ++ others → is_shaped front ≡ true → ⊥
-number_no_literal digits rest are stop front others e shaped = elim (begins_year front others shaped) [
-  | inl dashed ↦ not_dashed 4 digits rest are.each stop (rw e dashed)
-  | inr w ↦ minus_not_digit digits w.0 rest others are.each are.some (e ∙ ap (λ (x : List ℕ). x ++ others) w.1)
-]
-
 no_run_at_minus : (n : ℕ) (bytes : List ℕ) → Dashed (suc n) (45 ∷ bytes) → ⊥
 unfolding front_of
 no_run_at_minus n bytes dashed = let e : 0 ≡ suc n = dashed.run in absurd (omega (arith, e))
-
-negative_no_literal : (digits rest : List ℕ) → AreDigits digits → goes_on rest ≡ false → (front others : List ℕ) → 45 ∷ digits ++ rest ≡ front ++ others → is_shaped front ≡ true → ⊥
-negative_no_literal digits rest are stop front others e shaped = elim (begins_year front others shaped) [
-  | inl dashed ↦ no_run_at_minus 3 (digits ++ rest) (rw e dashed)
-  | inr w ↦
-      let all : 45 ∷ digits ++ rest ≡ 45 ∷ w.0 ++ others = e ∙ ap (λ (x : List ℕ). x ++ others) w.1 in
-      let tail : digits ++ rest ≡ w.0 ++ others = ap (drop 1) all in
-      not_dashed 4 digits rest are.each stop (rw tail w.2)
-]
 
 pub figures_number : (bytes : List ℕ) → shaped_front bytes ≡ 0 → figures_at bytes ≡ signed_at bytes
 unfolding figures_at
 figures_number bytes none = rw none refl
 
-pub number_read : (digits rest : List ℕ) → AreDigits digits → goes_on rest ≡ false → Reads digits (tokens.Number (pos (value_from 0 digits))) rest
-number_read [] rest are stop = absurd (omega (arith, are.some))
-number_read (d ∷ digits) rest are stop =
-    let digit = (and_parts (holds classes.Digit d) (list_all (holds classes.Digit) digits) are.each).0 in
-    let byte = digit_byte d digit in
-    let first = figures_first d (digits ++ rest) (or_left _ _ digit) in
-    let none = no_literal (d ∷ digits ++ rest) (number_no_literal (d ∷ digits) rest are stop) in
-    let signed : signed_at (d ∷ digits ++ rest) ≡ number_at false (d ∷ digits ++ rest) = rw byte.minus refl in
-    record {
-      first = d;
-      others = digits;
-      splits = refl;
-      no_blank = first.1;
-      read = first.0 ∙ figures_number (d ∷ digits ++ rest) none ∙ signed ∙ number_there false (d ∷ digits) rest are (stops rest stop).0;
-    }
-
 pub digits_begin : (digits rest : List ℕ) → list_all (holds classes.Digit) digits ≡ true → 0 < length digits → begins_digit (digits ++ rest) ≡ true
 digits_begin [] rest each some = absurd (omega arith)
 digits_begin (d ∷ digits) rest each some = (and_parts (holds classes.Digit d) (list_all (holds classes.Digit) digits) each).0
-
-pub negative_read : (digits rest : List ℕ) → AreDigits digits → goes_on rest ≡ false → Reads (45 ∷ digits) (tokens.Number (signed true (value_from 0 digits))) rest
-negative_read digits rest are stop =
-    let first = figures_first 45 (digits ++ rest) (digits_begin digits rest are.each are.some) in
-    let none = no_literal (45 ∷ digits ++ rest) (negative_no_literal digits rest are stop) in
-    record {
-      first = 45;
-      others = digits;
-      splits = refl;
-      no_blank = refl;
-      read = first.0 ∙ figures_number (45 ∷ digits ++ rest) none ∙ number_there true digits rest are (stops rest stop).0;
-    }
-
--- moment literals
 
 dashed_begins : (n : ℕ) (bytes : List ℕ) → Dashed (suc n) bytes → begins_digit bytes ≡ true
 unfolding front_of
@@ -281,29 +222,84 @@ dashed_begins n (b ∷ bytes) dashed = elim (cases_Bool (holds classes.Digit b))
   | inr other ↦ let e : 0 ≡ suc n = rw other at dashed.run in absurd (omega (arith, e))
 ]
 
-shaped_figures : (text rest : List ℕ) → is_shaped text ≡ true → begins_with_zone rest ≡ false → 0 < length text → figures_at (text ++ rest) ≡ Some (tokens.Moment (stamp_of text), rest)
-shaped_figures text rest shaped stop some =
-    let width = shapes_end text rest shaped stop in
-    let there = moment_there (text ++ rest) (rw width some) in
-    let front : take (shaped_front (text ++ rest)) (text ++ rest) ≡ text = rw width (take-append_seam text rest) in
-    let back : drop (shaped_front (text ++ rest)) (text ++ rest) ≡ rest = rw width (drop-append_seam text rest) in
-    rw (front, back) at there
-
 not_shaped : is_shaped [] ≡ true → ⊥
 unfolding is_shaped has_form
 not_shaped h = absurd (false≢true h)
 
-pub shaped_first : (b : ℕ) (more rest : List ℕ) → is_shaped (b ∷ more) ≡ true → begins_number b (more ++ rest) ≡ true
-shaped_first b more rest shaped = elim (begins_year (b ∷ more) rest shaped) [
-  | inl dashed ↦ or_left _ _ (dashed_begins 3 (b ∷ more ++ rest) dashed)
-  | inr w ↦
-      let minus : b ≡ 45 = cc in
-      let tail : more ≡ w.0 = ap (drop 1) w.1 in
-      or_right _ _ (and_from (b == 45) (begins_digit (more ++ rest)) (rw minus refl) (rw tail (dashed_begins 3 (w.0 ++ rest) w.2)))
-]
+module _ (forms : ShapedTextsHaveForms) (fronts : FrontsAreLongest) (shapes_end : ShapesEnd) where
+  pub begins_year : (front others : List ℕ) → is_shaped front ≡ true → BeginsYear front others
+  begins_year front others h = let shape = forms front h in either_year shape.0 shape.1 front others shape.2
 
-pub moment_read : (text rest : List ℕ) → is_shaped text ≡ true → begins_with_zone rest ≡ false → Reads text (tokens.Moment (stamp_of text)) rest
-moment_read [] rest shaped stop = absurd (not_shaped shaped)
-moment_read (b ∷ more) rest shaped stop =
-    let first = figures_first b (more ++ rest) (shaped_first b more rest shaped) in
-    record { first = b; others = more; splits = refl; no_blank = first.1; read = first.0 ∙ shaped_figures (b ∷ more) rest shaped stop (omega arith) }
+  no_literal : (bytes : List ℕ) → ((front others : List ℕ) → bytes ≡ front ++ others → is_shaped front ≡ true → ⊥) → shaped_front bytes ≡ 0
+  no_literal bytes none = elim (cases_lt 0 (shaped_front bytes)) [
+    | inl some ↦ absurd (none (take (shaped_front bytes) bytes) (drop (shaped_front bytes) bytes) (sym (take-append-drop (shaped_front bytes) bytes)) ((fronts bytes).shaped some))
+    | inr le ↦ omega (arith, le)
+  ]
+
+  number_no_literal : (digits rest : List ℕ) → AreDigits digits → goes_on rest ≡ false → (front others : List ℕ) → digits ++ rest ≡ front ++ others → is_shaped front ≡ true → ⊥
+  number_no_literal digits rest are stop front others e shaped = elim (begins_year front others shaped) [
+    | inl dashed ↦ not_dashed 4 digits rest are.each stop (rw e dashed)
+    | inr w ↦ minus_not_digit digits w.0 rest others are.each are.some (e ∙ ap (λ (x : List ℕ). x ++ others) w.1)
+  ]
+
+  negative_no_literal : (digits rest : List ℕ) → AreDigits digits → goes_on rest ≡ false → (front others : List ℕ) → 45 ∷ digits ++ rest ≡ front ++ others → is_shaped front ≡ true → ⊥
+  negative_no_literal digits rest are stop front others e shaped = elim (begins_year front others shaped) [
+    | inl dashed ↦ no_run_at_minus 3 (digits ++ rest) (rw e dashed)
+    | inr w ↦
+        let all : 45 ∷ digits ++ rest ≡ 45 ∷ w.0 ++ others = e ∙ ap (λ (x : List ℕ). x ++ others) w.1 in
+        let tail : digits ++ rest ≡ w.0 ++ others = ap (drop 1) all in
+        not_dashed 4 digits rest are.each stop (rw tail w.2)
+  ]
+
+  pub number_read : (digits rest : List ℕ) → AreDigits digits → goes_on rest ≡ false → Reads digits (tokens.Number (pos (value_from 0 digits))) rest
+  number_read [] rest are stop = absurd (omega (arith, are.some))
+  number_read (d ∷ digits) rest are stop =
+      let digit = (and_parts (holds classes.Digit d) (list_all (holds classes.Digit) digits) are.each).0 in
+      let byte = digit_byte d digit in
+      let first = figures_first d (digits ++ rest) (or_left _ _ digit) in
+      let none = no_literal (d ∷ digits ++ rest) (number_no_literal (d ∷ digits) rest are stop) in
+      let signed : signed_at (d ∷ digits ++ rest) ≡ number_at false (d ∷ digits ++ rest) = rw byte.minus refl in
+      record {
+        first = d;
+        others = digits;
+        splits = refl;
+        no_blank = first.1;
+        read = first.0 ∙ figures_number (d ∷ digits ++ rest) none ∙ signed ∙ number_there false (d ∷ digits) rest are (stops rest stop).0;
+      }
+
+  pub negative_read : (digits rest : List ℕ) → AreDigits digits → goes_on rest ≡ false → Reads (45 ∷ digits) (tokens.Number (signed true (value_from 0 digits))) rest
+  negative_read digits rest are stop =
+      let first = figures_first 45 (digits ++ rest) (digits_begin digits rest are.each are.some) in
+      let none = no_literal (45 ∷ digits ++ rest) (negative_no_literal digits rest are stop) in
+      record {
+        first = 45;
+        others = digits;
+        splits = refl;
+        no_blank = refl;
+        read = first.0 ∙ figures_number (45 ∷ digits ++ rest) none ∙ number_there true digits rest are (stops rest stop).0;
+      }
+
+  -- moment literals
+
+  shaped_figures : (text rest : List ℕ) → is_shaped text ≡ true → begins_with_zone rest ≡ false → 0 < length text → figures_at (text ++ rest) ≡ Some (tokens.Moment (stamp_of text), rest)
+  shaped_figures text rest shaped stop some =
+      let width = shapes_end text rest shaped stop in
+      let there = moment_there (text ++ rest) (rw width some) in
+      let front : take (shaped_front (text ++ rest)) (text ++ rest) ≡ text = rw width (take-append_seam text rest) in
+      let back : drop (shaped_front (text ++ rest)) (text ++ rest) ≡ rest = rw width (drop-append_seam text rest) in
+      rw (front, back) at there
+
+  pub shaped_first : (b : ℕ) (more rest : List ℕ) → is_shaped (b ∷ more) ≡ true → begins_number b (more ++ rest) ≡ true
+  shaped_first b more rest shaped = elim (begins_year (b ∷ more) rest shaped) [
+    | inl dashed ↦ or_left _ _ (dashed_begins 3 (b ∷ more ++ rest) dashed)
+    | inr w ↦
+        let minus : b ≡ 45 = cc in
+        let tail : more ≡ w.0 = ap (drop 1) w.1 in
+        or_right _ _ (and_from (b == 45) (begins_digit (more ++ rest)) (rw minus refl) (rw tail (dashed_begins 3 (w.0 ++ rest) w.2)))
+  ]
+
+  pub moment_read : (text rest : List ℕ) → is_shaped text ≡ true → begins_with_zone rest ≡ false → Reads text (tokens.Moment (stamp_of text)) rest
+  moment_read [] rest shaped stop = absurd (not_shaped shaped)
+  moment_read (b ∷ more) rest shaped stop =
+      let first = figures_first b (more ++ rest) (shaped_first b more rest shaped) in
+      record { first = b; others = more; splits = refl; no_blank = first.1; read = first.0 ∙ shaped_figures (b ∷ more) rest shaped stop (omega arith) }

@@ -11,6 +11,7 @@ use Rattle.moment_core.specs.declared.line.Stamp.{Stamp}
 use Rattle.moment_core.specs.declared.line.TheConstants.{LOW, WIDTH}
 use Rattle.moment_text.specs.Laws.{LiteralsTellMomentsApart}
 use Rattle.moment_text.specs.Literal.{Names, literal_of, shaped_front}
+use Rattle.expr_tokens.specs.Laws.{stamp}
 use Rattle.expr_tokens.specs.Plain.{Moment}
 use Rattle.expr_tokens.specs.Reading.{figures_at}
 use Rattle.expr_tokens.specs.Stamps.{stamp_after, stamps, is_literal, stamp_of}
@@ -100,14 +101,11 @@ module _ (text : List ℕ) where
       let other = some_stamp s named in
       found other.0 (stamp_named other.0 other.1) ∙ sym other.1
 
-abbrev pub stamp : ℤ → Bool → Stamp
-stamp t absolute = record { moment = record { 0 = t }; absolute = absolute }
-
 stamp_same : (s : Stamp) (t : ℤ) (absolute : Bool) → t ≡ s.moment.0 → absolute ≡ s.absolute → s ≡ stamp t absolute
 stamp_same s t absolute same also = ap (λ (x : ℤ). stamp x s.absolute) (sym same) ∙ ap (stamp t) (sym also)
 
 -- a literal has the moment that was written
-pub stamp_of-literal : (apart : LiteralsTellMomentsApart) (t : ℤ) (absolute : Bool) → IsCalendarMoment t → stamp_of (literal_of t absolute) ≡ Some (record { moment = record { 0 = t }; absolute = absolute })
+pub stamp_of-literal : (apart : LiteralsTellMomentsApart) (t : ℤ) (absolute : Bool) → IsCalendarMoment t → stamp_of (literal_of t absolute) ≡ Some (stamp t absolute)
 stamp_of-literal apart t absolute within =
     let other = some_stamp (literal_of t absolute) (stamp t absolute) (record { is_literal = refl; in_range = within }) in
     let named = stamp_named (literal_of t absolute) other.0 other.1 in

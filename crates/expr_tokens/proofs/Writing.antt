@@ -1,38 +1,28 @@
 -- Bytes that are read as given tokens, and what may stand behind them.
-use Rattle.std.proofs.Common.{◌≡◌, ℕ, zero, suc, ◌^◌, ◌≤◌, ◌<◌, ℤ, pos, negsuc, Bool, true, false, ◌&&◌, List, [], ◌∷◌, ◌++◌, length, Some, Result, Ok, Err, refl, sym, ap, ◌∙◌, append_assoc, arith, rules, length-append}
-use Rattle.std.specs.Prelude.{codes, unsigned_abs, ◌==◌}
-use Rattle.std.specs.Fmt.{decimal, signed_decimal}
+use Rattle.std.proofs.Common.{◌≡◌, ℕ, zero, suc, ◌^◌, ◌≤◌, ◌<◌, pos, negsuc, true, false, List, [], ◌∷◌, ◌++◌, length, Some, Result, Ok, Err, refl, sym, ap, ◌∙◌, append_assoc, arith, rules, length-append}
+use Rattle.std.specs.Prelude.{codes}
+use Rattle.std.specs.Fmt.{decimal}
 use Rattle.std.specs.List.{list_all}
 use Rattle.std.proofs.lemmas.Str.Parse.{numerals_by_fold, IsNumeralModel}
 use Rattle.std.proofs.lemmas.Fmt.{digits_decimal, digits_value-decimal, decimal_nonempty, length-decimal-le}
 use Rattle.std.proofs.lemmas.Int.{ints}
 use Rattle.std.proofs.lemmas.List.{append-nil}
-use Rattle.moment_core.specs.Line.{IsCalendarMoment}
-use Rattle.moment_text.specs.Laws.{LiteralsAreShaped, LiteralsTellMomentsApart, begins_with_zone}
+use Rattle.moment_text.specs.Laws.{FrontsAreLongest, LiteralsAreShaped, LiteralsTellMomentsApart, ShapedTextsHaveForms, ShapesEnd}
 use Rattle.moment_text.specs.Literal.{literal_of}
 use Rattle.expr_tokens.specs.declared.class.Class.TheVariants as classes
-use Rattle.expr_tokens.specs.declared.token.Operator.TheVariants as operators
 use Rattle.expr_tokens.specs.declared.token.Word.{Word}
 use Rattle.expr_tokens.specs.declared.token.Word.TheVariants.{Empty, Span, Yearly, Monthly, Weekly, Daily, Hourly, Minutely, Secondly, Rrule, Event, During, Pairs, Starts, Ends, Shift, Zoned, ZonedFirst, Start, After, End, Before, Months, Weeks, Days, Hours, Minutes, Seconds, Interval, WeekStart}
 use Rattle.expr_tokens.specs.Plain.{Token}
 use Rattle.expr_tokens.specs.Plain as tokens
 use Rattle.expr_tokens.specs.Class.{holds, passes_first}
 use Rattle.expr_tokens.specs.Names.{name_of, word_of}
-use Rattle.expr_tokens.specs.Reading.{Found, begins_digit, value_from, signed, named, sign_of, with_token, token_at, reading_from, reading_of, alone, tokens_of}
+use Rattle.expr_tokens.specs.Reading.{Found, value_from, signed, named, with_token, token_at, reading_from, reading_of, alone, tokens_of}
 use Rattle.expr_tokens.specs.Stamps.{stamp_of}
+use Rattle.expr_tokens.specs.Laws.{before, Lexes, NothingIsRead, PartsAreRead, TextsAreRead, SpacesAreRead, SignsAreRead, WordsAreRead, NumbersAreRead, MomentsAreRead}
 use Rattle.expr_tokens.specs.Longest.{AreDigits}
 use Rattle.expr_tokens.proofs.Lexing.{nothing_from}
-use Rattle.expr_tokens.proofs.OneToken.{Reads, goes_on, sign_read, name_read, text_read, number_read, negative_read, moment_read}
-use Rattle.expr_tokens.proofs.Stamps.{stamp, stamp_of-literal}
-
--- tokens, and then those of a rest
-abbrev pub before : List Token → Result (List Token) ℕ → Result (List Token) ℕ
-before ts (Ok us) = Ok (ts ++ us)
-before ts (Err left) = Err left
-
--- The bytes are read as these tokens, and then the rest is read.
-pub record Lexes (bytes : List ℕ) (ts : List Token) (rest : List ℕ) : Type 0 where
-  pub reads : (n : ℕ) → length (bytes ++ rest) ≤ n → (m : ℕ) × (length rest ≤ m) × (alone (reading_from n (bytes ++ rest)) ≡ before ts (alone (reading_from m rest)))
+use Rattle.expr_tokens.proofs.OneToken.{Reads, sign_read, name_read, number_read, negative_read, moment_read}
+use Rattle.expr_tokens.proofs.Stamps.{stamp_of-literal}
 
 before-append : (ts us : List Token) (read : Result (List Token) ℕ) → before ts (before us read) ≡ before (ts ++ us) read
 before-append ts us (Ok x) = ap (λ (y : List Token). Ok y) (sym (append_assoc ts us x))
@@ -46,10 +36,10 @@ alone-with_token : (x : Token × ℕ) (read : Found) → alone (with_token x rea
 alone-with_token x (Ok found) = refl
 alone-with_token x (Err left) = refl
 
-pub Lexes-nothing : (rest : List ℕ) → Lexes [] [] rest
+pub Lexes-nothing : NothingIsRead
 Lexes-nothing rest = record { reads = λ n enough. (n, enough, sym (before_none (alone (reading_from n rest)))) }
 
-pub Lexes-append : (a b : List ℕ) (ts us : List Token) (rest : List ℕ) → Lexes a ts (b ++ rest) → Lexes b us rest → Lexes (a ++ b) (ts ++ us) rest
+pub Lexes-append : PartsAreRead
 Lexes-append a b ts us rest first second = record {
   reads = λ n enough.
       let x = first.reads n (rw append_assoc at enough) in
@@ -57,8 +47,7 @@ Lexes-append a b ts us rest first second = record {
       (y.0, y.1, rw append_assoc (x.2 ∙ ap (before ts) y.2 ∙ before-append ts us (alone (reading_from y.0 rest))));
 }
 
--- a whole text
-pub Lexes-all : (text : List ℕ) (ts : List Token) → Lexes text ts [] → tokens_of text ≡ Ok ts
+pub Lexes-all : TextsAreRead
 unfolding tokens_of reading_of
 Lexes-all text ts lexes =
     let enough : length (text ++ []) ≤ length text = rw (append-nil text) (omega arith) in
@@ -66,18 +55,13 @@ Lexes-all text ts lexes =
     let read : alone (reading_from (length text) text) ≡ before ts (alone (reading_from x.0 [])) = rw (append-nil text) at x.2 in
     read ∙ ap (λ (y : Found). before ts (alone y)) (nothing_from x.0) ∙ ap (λ (y : List Token). Ok y) (append-nil ts)
 
--- blanks
-
 blank_read : (n b : ℕ) (rest : List ℕ) → holds classes.Blank b ≡ true → length (b ∷ rest) ≤ n → (m : ℕ) × (length rest ≤ m) × (alone (reading_from n (b ∷ rest)) ≡ before [] (alone (reading_from m rest)))
 unfolding reading_from
 blank_read zero b rest blank enough = absurd (omega arith)
 blank_read (suc n) b rest blank enough = (n, omega arith, rw blank (sym (before_none (alone (reading_from n rest)))))
 
-pub Lexes-blank : (b : ℕ) (rest : List ℕ) → holds classes.Blank b ≡ true → Lexes (b ∷ []) [] rest
-Lexes-blank b rest blank = record { reads = λ n enough. blank_read n b rest blank enough }
-
-pub Lexes-space : (rest : List ℕ) → Lexes (32 ∷ []) [] rest
-Lexes-space rest = Lexes-blank 32 rest refl
+pub Lexes-space : SpacesAreRead
+Lexes-space rest = record { reads = λ n enough. blank_read n 32 rest refl enough }
 
 -- one token
 
@@ -88,59 +72,14 @@ token_read zero b more rest t blank read enough = absurd (omega arith)
 token_read (suc n) b more rest t blank read enough =
     (n, omega (arith, length-append more rest), rw (blank, read) (alone-with_token (t, suc (length (more ++ rest))) (reading_from n rest)))
 
-pub Lexes-token : (bytes : List ℕ) (t : Token) (rest : List ℕ) → Reads bytes t rest → Lexes bytes (t ∷ []) rest
+Lexes-token : (bytes : List ℕ) (t : Token) (rest : List ℕ) → Reads bytes t rest → Lexes bytes (t ∷ []) rest
 Lexes-token bytes t rest reads = record { reads = λ n enough. rw reads.splits (token_read n reads.first reads.others rest t reads.no_blank reads.read (rw reads.splits at enough)) }
 
--- a sign of its own: behind a minus no digit may stand
-pub Lexes-sign : (b : ℕ) (t : Token) (rest : List ℕ) → sign_of b ≡ Some t → (b == 45 && begins_digit rest) ≡ false → Lexes (b ∷ []) (t ∷ []) rest
+pub Lexes-sign : SignsAreRead
 Lexes-sign b t rest is stop = Lexes-token (b ∷ []) t rest (sign_read b t rest is stop)
 
-pub Lexes-open : (rest : List ℕ) → Lexes (40 ∷ []) (tokens.Open ∷ []) rest
-unfolding sign_of
-Lexes-open rest = Lexes-sign 40 tokens.Open rest refl refl
-
-pub Lexes-close : (rest : List ℕ) → Lexes (41 ∷ []) (tokens.Close ∷ []) rest
-unfolding sign_of
-Lexes-close rest = Lexes-sign 41 tokens.Close rest refl refl
-
-pub Lexes-left_brace : (rest : List ℕ) → Lexes (123 ∷ []) (tokens.LeftBrace ∷ []) rest
-unfolding sign_of
-Lexes-left_brace rest = Lexes-sign 123 tokens.LeftBrace rest refl refl
-
-pub Lexes-right_brace : (rest : List ℕ) → Lexes (125 ∷ []) (tokens.RightBrace ∷ []) rest
-unfolding sign_of
-Lexes-right_brace rest = Lexes-sign 125 tokens.RightBrace rest refl refl
-
-pub Lexes-comma : (rest : List ℕ) → Lexes (44 ∷ []) (tokens.Comma ∷ []) rest
-unfolding sign_of
-Lexes-comma rest = Lexes-sign 44 tokens.Comma rest refl refl
-
-pub Lexes-semicolon : (rest : List ℕ) → Lexes (59 ∷ []) (tokens.Semicolon ∷ []) rest
-unfolding sign_of
-Lexes-semicolon rest = Lexes-sign 59 tokens.Semicolon rest refl refl
-
-pub Lexes-equals : (rest : List ℕ) → Lexes (61 ∷ []) (tokens.Equals ∷ []) rest
-unfolding sign_of
-Lexes-equals rest = Lexes-sign 61 tokens.Equals rest refl refl
-
-pub Lexes-exclamation : (rest : List ℕ) → Lexes (33 ∷ []) (tokens.Exclamation ∷ []) rest
-unfolding sign_of
-Lexes-exclamation rest = Lexes-sign 33 tokens.Exclamation rest refl refl
-
-pub Lexes-union : (rest : List ℕ) → Lexes (124 ∷ []) (tokens.Operator operators.Union ∷ []) rest
-unfolding sign_of
-Lexes-union rest = Lexes-sign 124 (tokens.Operator operators.Union) rest refl refl
-
-pub Lexes-meet : (rest : List ℕ) → Lexes (38 ∷ []) (tokens.Operator operators.Meet ∷ []) rest
-unfolding sign_of
-Lexes-meet rest = Lexes-sign 38 (tokens.Operator operators.Meet) rest refl refl
-
-pub Lexes-minus : (rest : List ℕ) → begins_digit rest ≡ false → Lexes (45 ∷ []) (tokens.Operator operators.Minus ∷ []) rest
-unfolding sign_of
-Lexes-minus rest stop = Lexes-sign 45 (tokens.Operator operators.Minus) rest refl stop
-
 -- a name, with no byte of a name behind it
-pub Lexes-name : (b : ℕ) (more rest : List ℕ) → holds classes.Letter b ≡ true → list_all (holds classes.Name) more ≡ true → passes_first (holds classes.Name) rest ≡ false → Lexes (b ∷ more) (named (b ∷ more) (word_of (b ∷ more)) ∷ []) rest
+Lexes-name : (b : ℕ) (more rest : List ℕ) → holds classes.Letter b ≡ true → list_all (holds classes.Name) more ≡ true → passes_first (holds classes.Name) rest ≡ false → Lexes (b ∷ more) (named (b ∷ more) (word_of (b ∷ more)) ∷ []) rest
 Lexes-name b more rest letter each stop = Lexes-token (b ∷ more) (named (b ∷ more) (word_of (b ∷ more))) rest (name_read b more rest letter each stop)
 
 -- the name of a word is one, and is that word's
@@ -185,15 +124,10 @@ word_named Seconds = record { first = 115; more = codes "econds"; splits = refl;
 word_named Interval = record { first = 105; more = codes "nterval"; splits = refl; letter = refl; each = refl; word = refl }
 word_named WeekStart = record { first = 119; more = codes "eek_start"; splits = refl; letter = refl; each = refl; word = refl }
 
--- the name of a word
-pub Lexes-word : (w : Word) (rest : List ℕ) → passes_first (holds classes.Name) rest ≡ false → Lexes (name_of w) (tokens.Word w ∷ []) rest
+pub Lexes-word : WordsAreRead
 Lexes-word w rest stop =
     let name = word_named w in
     rw name.splits (rw name.word at (Lexes-name name.first name.more rest name.letter name.each stop))
-
--- a string
-pub Lexes-text : (quoted rest : List ℕ) → list_all (holds classes.Quoted) quoted ≡ true → length quoted ≤ 1024 → Lexes (34 ∷ quoted ++ 34 ∷ []) (tokens.Text quoted ∷ []) rest
-Lexes-text quoted rest each short = Lexes-token (34 ∷ quoted ++ 34 ∷ []) (tokens.Text quoted) rest (text_read quoted rest each short)
 
 -- numbers
 
@@ -211,16 +145,15 @@ decimal_digits n short = record {
 negative : (n : ℕ) → signed true (suc n) ≡ negsuc n
 negative n = grind (arith, ints)
 
--- a number of at most 13 digits, with neither a digit nor a minus behind it
-pub Lexes-number : (z : ℤ) (rest : List ℕ) → unsigned_abs z < 10 ^ 13 → goes_on rest ≡ false → Lexes (signed_decimal z) (tokens.Number z ∷ []) rest
-Lexes-number (pos n) rest short stop =
-    let value : value_from 0 (decimal n) ≡ n = digits_value-decimal own n (omega arith) in
-    rw value at (Lexes-token (decimal n) (tokens.Number (pos (value_from 0 (decimal n)))) rest (number_read (decimal n) rest (decimal_digits n short) stop))
-Lexes-number (negsuc n) rest short stop =
-    let value : value_from 0 (decimal (suc n)) ≡ suc n = digits_value-decimal own (suc n) (omega arith) in
-    rw (value, negative n) at (Lexes-token (45 ∷ decimal (suc n)) (tokens.Number (signed true (value_from 0 (decimal (suc n))))) rest (negative_read (decimal (suc n)) rest (decimal_digits (suc n) short) stop))
+module _ (forms : ShapedTextsHaveForms) (fronts : FrontsAreLongest) (shapes_end : ShapesEnd) where
+  pub Lexes-number : NumbersAreRead
+  Lexes-number (pos n) rest short stop =
+      let value : value_from 0 (decimal n) ≡ n = digits_value-decimal own n (omega arith) in
+      rw value at (Lexes-token (decimal n) (tokens.Number (pos (value_from 0 (decimal n)))) rest (number_read forms fronts shapes_end (decimal n) rest (decimal_digits n short) stop))
+  Lexes-number (negsuc n) rest short stop =
+      let value : value_from 0 (decimal (suc n)) ≡ suc n = digits_value-decimal own (suc n) (omega arith) in
+      rw (value, negative n) at (Lexes-token (45 ∷ decimal (suc n)) (tokens.Number (signed true (value_from 0 (decimal (suc n))))) rest (negative_read forms fronts shapes_end (decimal (suc n)) rest (decimal_digits (suc n) short) stop))
 
--- the literal of a moment of the calendar range, with no Z behind it
-pub Lexes-moment : LiteralsAreShaped → LiteralsTellMomentsApart → (t : ℤ) (absolute : Bool) (rest : List ℕ) → IsCalendarMoment t → begins_with_zone rest ≡ false → Lexes (literal_of t absolute) (tokens.Moment (Some (stamp t absolute)) ∷ []) rest
-Lexes-moment shaped apart t absolute rest within stop =
-    rw (stamp_of-literal apart t absolute within) at (Lexes-token (literal_of t absolute) (tokens.Moment (stamp_of (literal_of t absolute))) rest (moment_read (literal_of t absolute) rest (shaped t absolute) stop))
+  pub Lexes-moment : LiteralsAreShaped → LiteralsTellMomentsApart → MomentsAreRead
+  Lexes-moment shaped apart t absolute rest within stop =
+      rw (stamp_of-literal apart t absolute within) at (Lexes-token (literal_of t absolute) (tokens.Moment (stamp_of (literal_of t absolute))) rest (moment_read forms fronts shapes_end (literal_of t absolute) rest (shaped t absolute) stop))

@@ -1,5 +1,5 @@
 -- Runs of bytes of one class.
-use Rattle.std.specs.Prelude.{ℕ, Bool, false, not, ◌&&◌, ◌||◌, nat_le, ◌==◌, List, [], ◌∷◌, if◌then◌else◌}
+use Rattle.std.specs.Prelude.{◌≡◌, ℕ, ◌≤◌, Bool, true, false, not, ◌&&◌, ◌||◌, nat_le, ◌==◌, List, [], ◌∷◌, length, drop, if◌then◌else◌}
 use Rattle.expr_tokens.specs.declared.class.Class.{Class}
 use Rattle.expr_tokens.specs.declared.class.Class.TheVariants.{Letter, Digit, Name, Quoted, Blank}
 
@@ -24,3 +24,7 @@ behind p (b ∷ bytes) = if p b then behind p bytes else b ∷ bytes
 abbrev pub passes_first : (ℕ → Bool) → List ℕ → Bool
 passes_first p [] = false
 passes_first p (b ∷ bytes) = p b
+
+-- the rest is shorter than the bytes, where the first one passes
+abbrev pub GoesPast : Class → List ℕ → List ℕ → Type 0
+GoesPast class bytes rest = passes_first (holds class) bytes ≡ true → length rest ≤ length (drop 1 bytes)

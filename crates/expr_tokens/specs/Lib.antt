@@ -4,3 +4,4 @@ pub mod Plain
 pub mod Reading
 pub mod Stamps
 pub mod Longest
+pub mod Laws

@@ -1,7 +1,7 @@
 -- Tokens as the grammar sees them: without where their bytes lie, in memory or in the text.
 use Rattle.std.specs.Prelude.{ℕ, ℤ, List, map, Option}
 use Rattle.moment_core.specs.declared.line.Stamp.{Stamp}
-use Rattle.expr_tokens.specs.declared.token.Operator.{Operator as TheOperator}
+use Rattle.moment_core.specs.declared.joining.Op.{Op}
 use Rattle.expr_tokens.specs.declared.token.Word.{Word as TheWord}
 use Rattle.expr_tokens.specs.declared.token.Token.{Token as Placed}
 use Rattle.expr_tokens.specs.declared.token.Token.TheVariants as placed
@@ -15,7 +15,7 @@ pub data Token : Type 0 where
   Semicolon : Token
   Equals : Token
   Exclamation : Token
-  Operator : (op : TheOperator) → Token
+  Operator : (op : Op) → Token
   Number : (n : ℤ) → Token
   Word : (w : TheWord) → Token
   Name : (bytes : List ℕ) → Token

@@ -7,7 +7,7 @@ use Rattle.moment_text.specs.Literal.{shaped_front}
 use Rattle.expr_tokens.specs.declared.class.Class.TheVariants as classes
 use Rattle.expr_tokens.specs.declared.fault.TokenFault.{TokenFault}
 use Rattle.expr_tokens.specs.declared.fault.TokenFault.TheVariants as faults
-use Rattle.expr_tokens.specs.declared.token.Operator.TheVariants as operators
+use Rattle.moment_core.specs.declared.joining.Op.TheVariants as operators
 use Rattle.expr_tokens.specs.declared.token.Word.{Word}
 use Rattle.expr_tokens.specs.declared.token.Token.{Token as Placed}
 use Rattle.expr_tokens.specs.declared.token.Token.TheVariants as placed

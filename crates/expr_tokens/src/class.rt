@@ -1,7 +1,7 @@
 //! Runs of bytes of one class.
 
-ghost use Rattle.std.specs.Prelude.{◌≡◌, ◌≤◌, length, drop, true};
-ghost use Rattle.expr_tokens.specs.Class.{holds, front_of, behind, passes_first};
+ghost use Rattle.std.specs.Prelude.{◌≡◌, ◌≤◌, length};
+ghost use Rattle.expr_tokens.specs.Class.{GoesPast, holds, front_of, behind};
 
 #[derive(Clone, Copy, Debug, PartialEq, Eq)]
 pub enum Class {
@@ -29,7 +29,7 @@ pub fn is_of(class: Class, b: u8) -> bool
 pub fn split(class: Class, bytes: &[u8]) -> (&[u8], &[u8])
     ensures front { result.0.now ≡ front_of (holds class) bytes.now }
     ensures rest { result.1.now ≡ behind (holds class) bytes.now }
-    ensures progress { passes_first (holds class) bytes.now ≡ true → length result.1.now ≤ length (drop 1 bytes.now) }
+    ensures progress { GoesPast class bytes.now result.1.now }
     ensures shorter { length result.1.now ≤ length bytes.now }
 {
     for (i, b) in bytes.iter().enumerate() {

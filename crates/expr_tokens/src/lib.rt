@@ -9,9 +9,9 @@ mod reading;
 mod token;
 
 pub use fault::TokenFault;
-pub use laws::token_laws;
+pub use laws::{token_laws, writing_laws};
 pub use reading::tokens;
-pub use token::{Operator, Token, Word};
+pub use token::{Token, Word};
 
 #[cfg(test)]
 mod tests;

@@ -9,8 +9,9 @@ ghost use Rattle.expr_tokens.specs.Reading.{value_from, number_at, name_at, text
 use crate::class::{Class, is_of, split};
 use crate::fault::TokenFault;
 use crate::names::word;
-use crate::token::{Operator, Token};
-use moment_text::{read_moment, shaped_front};
+use crate::token::Token;
+use moment_core::Op;
+use moment_text::{literal_laws, read_moment, shaped_front};
 use std::alloc::Global;
 
 /// The number that at most 13 digits write.
@@ -88,9 +89,9 @@ fn sign(b: u8, rest: &[u8]) -> Option<(Token<'_>, &[u8])>
         b',' => Token::Comma,
         b';' => Token::Semicolon,
         b'=' => Token::Equals,
-        b'|' => Token::Operator(Operator::Union),
-        b'&' => Token::Operator(Operator::Meet),
-        b'-' => Token::Operator(Operator::Minus),
+        b'|' => Token::Operator(Op::Union),
+        b'&' => Token::Operator(Op::Meet),
+        b'-' => Token::Operator(Op::Minus),
         b'!' => Token::Exclamation,
         _ => return None,
     };
@@ -120,6 +121,7 @@ fn figures<'a>(
     ensures placed { IsPlacedFront result (place + length bytes.now) (length bytes.now) }
     ensures shorter { IsShorterFront result rest.now }
 {
+    literal_laws();
     let width = shaped_front(bytes);
     if width > 0 {
         let (literal, behind) = bytes.split_at(width);

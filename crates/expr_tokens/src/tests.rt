@@ -1,4 +1,5 @@
 use crate::*;
+use moment_core::Op;
 use std::test::Fail;
 
 // A token as a letter and a number: `#` and a number's value, `w` and the place of a word, `n` and the length of another
@@ -14,9 +15,9 @@ fn code(token: &Token<'_>) -> (char, i64) {
         Token::Semicolon => (';', 0),
         Token::Equals => ('=', 0),
         Token::Exclamation => ('!', 0),
-        Token::Operator(Operator::Union) => ('|', 0),
-        Token::Operator(Operator::Minus) => ('-', 0),
-        Token::Operator(Operator::Meet) => ('&', 0),
+        Token::Operator(Op::Union) => ('|', 0),
+        Token::Operator(Op::Minus) => ('-', 0),
+        Token::Operator(Op::Meet) => ('&', 0),
         Token::Number(n) => ('#', *n),
         Token::Word(_, place) => ('w', (*place).min(1000) as i64),
         Token::Name(name) => ('n', name.len().min(2000) as i64),

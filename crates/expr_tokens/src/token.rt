@@ -1,12 +1,4 @@
-use moment_core::Stamp;
-
-/// What joins two expressions.
-#[derive(Clone, Copy, Debug, PartialEq, Eq)]
-pub enum Operator {
-    Union,
-    Minus,
-    Meet,
-}
+use moment_core::{Op, Stamp};
 
 /// The names that the grammar knows.
 #[derive(Clone, Copy, Debug, PartialEq, Eq)]
@@ -54,7 +46,7 @@ pub enum Token<'a> {
     Semicolon,
     Equals,
     Exclamation,
-    Operator(Operator),
+    Operator(Op),
     Number(i64),
     /// A name of the grammar, and its first byte.
     Word(Word, usize),

@@ -1,9 +1,8 @@
-use Rattle.moment_text.proofs.Shapes.{longest_front}
 use Rattle.expr_tokens.proofs.Stamps.{stamp_read, moment_there}
 use Rattle.expr_tokens.proofs.reading.figures.Goals as goal
 
 pub split_at-requires : goal.split_at-requires
-split_at-requires c = rw c.shaped_front-width.ensures (longest_front c.args.bytes.now).within
+split_at-requires c = rw c.shaped_front-width.ensures (c.literal_laws.ensures.longest c.args.bytes.now).within
 
 pub returns-then-width-gt0-clause-read : goal.returns-then-width-gt0-clause-read
 returns-then-width-gt0-clause-read c =
