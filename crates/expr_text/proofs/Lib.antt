@@ -1,8 +1,15 @@
 pub mod Calls
 pub mod Spans
 pub mod Ranges
+pub mod Started
 pub mod Moments
-pub mod Outcomes
+pub mod Places
+pub mod Positions
+pub mod Sorting
+pub mod Signs
+pub mod FieldTexts
+pub mod RulesBack
+pub mod RuleText
 pub mod Written
 pub mod RoundTrip
-pub mod OneAnswer
+pub mod OneReading

@@ -1,55 +1,69 @@
 -- Expressions whose moments have no fault stand for well-formed trees.
-use Rattle.std.proofs.Common.{◌≡◌, Bool, true, false, ◌||◌, List, [], ◌∷◌, Option, Some, None, refl, arith}
-use Rattle.std.specs.List.{AllByRecursion, list_any}
+use Rattle.std.proofs.Common.{◌≡◌, Bool, true, false, List, [], ◌∷◌, Option, Some, None, refl, ap, arith}
+use Rattle.std.specs.Prelude.{option_map}
+use Rattle.std.specs.List.{AllByRecursion, filter_map}
 use Rattle.std.proofs.lemmas.List.Elements.{All-from_recursion}
 use Rattle.moment_core.specs.Line.{IsCalendarMoment}
 use Rattle.moment_core.specs.declared.line.Stamp.{Stamp}
 use Rattle.span_core.specs.Bounds.{IsGiven}
-use Rattle.expr_tokens.specs.declared.token.Operator.TheVariants as operators
 use Rattle.expr_tokens.specs.declared.token.Token.{Token as Placed}
 use Rattle.expr_tokens.specs.declared.token.Token.TheVariants as placed
-use Rattle.expr_tokens.specs.Plain.{Token, plain, plains}
+use Rattle.expr_tokens.specs.Plain.{Token, plains}
 use Rattle.expr_tokens.specs.Plain as tokens
 use Rattle.expr_grammar.specs.declared.syntax.SpanBound.{SpanBound}
 use Rattle.expr_grammar.specs.Form.{Form, Forms}
 use Rattle.expr_grammar.specs.Form as forms
 use Rattle.expr_grammar.specs.Grammar.{Spells}
-use Rattle.expr_grammar.specs.Made.{HasMoment, BoundHas, IsMade, IsMadeSecond, AreMade}
-use Rattle.expr_grammar.proofs.Lists.{all_front, all_behind}
-use Rattle.expr_grammar.proofs.Made.{program_made}
+use Rattle.expr_grammar.specs.Laws.{MomentsAreKept}
+use Rattle.expr_grammar.specs.Made.{HasMoment, BoundHas, IsDated, IsMade, AreMade}
+use Rattle.moment_core.proofs.Lists.{all_front, all_behind}
+use Rattle.expr_tree.specs.Sorts.{nodes_of}
+use Rattle.expr_tree.specs.Tree.{Rule, Field, Tree, Empty, Spanned, Ruled, Joined, Not, Trees}
 use Rattle.expr_tree.specs.WellFormed.{HasClock, IsWellFormed}
-use Rattle.expr_text.specs.Accepted.{AreWellFormed, HasMoments}
-use Rattle.expr_text.specs.Faults.{HasGivenBounds, HasPosition, HasSpans, all_spans_of, first_nameless, is_nameless, second_spans, spans_of}
-use Rattle.expr_text.specs.Phases.{AllHaveGivenBounds, AllHaveSpans, IsInRange, SecondHasGivenBounds, SecondHasSpans}
-use Rattle.expr_text.specs.Trees.{bound_at, bound_of, clock_at, clock_of, stamps_of, tree_from, trees_from}
-
--- the literal names a moment of the calendar range
-abbrev pub IsDated : Option Stamp → Type 0
-IsDated None = ⊥
-IsDated (Some s) = IsCalendarMoment s.moment.0
+use Rattle.rule_core.specs.FieldChecks.{check_of}
+use Rattle.expr_text.specs.Rules.{rule_with}
+use Rattle.expr_text.proofs.Started.{checked, neither, started}
+use Rattle.expr_text.specs.Accepted.{AreWellFormed}
+use Rattle.expr_text.specs.Faults.{HasPosition, Tokens, all_spans_of, first_nameless, is_nameless, kinds_of, first_rule_fault, rule_fault, second_rule_fault, second_spans, spans_of}
+use Rattle.expr_text.specs.Phases.{AreBoth, HasGivenBounds, HasSpans, IsInRange, IsSecond}
+use Rattle.expr_text.specs.Phases.{first_nameless as nameless_in}
+use Rattle.expr_text.specs.Trees.{both, bound_at, bound_of, clock_at, clock_of, is_named, is_some, listed, size_of, stamps_of, tree_from, trees_from}
 
 dated_token : (t : Token) → IsInRange t → is_nameless t ≡ false → HasMoment IsDated t
 dated_token (tokens.Moment None) h named = absurd cc
 dated_token (tokens.Moment (Some s)) h named = h
 dated_token t h named = tt
 
-or_is : (a b : Bool) → (a || b) ≡ false → (a ≡ false) × (b ≡ false)
-or_is true b e = absurd cc
-or_is false b e = (refl, e)
+dated_tokens : (ts : Tokens) → AllByRecursion IsInRange (kinds_of ts) → first_nameless ts ≡ None → AllByRecursion (HasMoment IsDated) (kinds_of ts)
+dated_tokens [] h none = tt
+dated_tokens (t ∷ ts) h none =
+    let P : Bool → Type 0 = λ b. is_nameless t.0 ≡ b → AllByRecursion (HasMoment IsDated) (kinds_of (t ∷ ts)) in
+    let go : (b : Bool) → P b = λ b. elim b as P [
+      | true ↦ λ e. (let d = rw e at none in absurd cc)
+      | false ↦ λ e. (dated_token t.0 h.0 e, dated_tokens ts h.1 (rw e at none))
+    ] in
+    go (is_nameless t.0) refl
 
-pub dated_tokens : (ts : List Token) → AllByRecursion IsInRange ts → list_any is_nameless ts ≡ false → AllByRecursion (HasMoment IsDated) ts
-dated_tokens [] h named = tt
-dated_tokens (t ∷ ts) h named = let p = or_is (is_nameless t) (list_any is_nameless ts) named in (dated_token t h.0 p.0, dated_tokens ts h.1 p.1)
-
-pub none_nameless : (ts : List Placed) → first_nameless ts ≡ None → list_any is_nameless (plains ts) ≡ false
-none_nameless [] e = refl
-none_nameless (placed.Moment None place ∷ ts) e = absurd cc
-none_nameless (placed.Moment (Some s) place ∷ ts) e = none_nameless ts e
-none_nameless (t ∷ ts) e = none_nameless ts e
+second_made : (o : Option Form) (t : Form) → AreMade IsDated (record { first = t; second = o }) → IsSecond (IsMade IsDated) o
+second_made None t h = tt
+second_made (Some u) t h = h.1
 
 -- what tokens without a fault of their literals spell is made of moments
-pub made_of : (ts : List Placed) (p : Forms) → Spells p (plains ts) → AllByRecursion IsInRange (plains ts) → first_nameless ts ≡ None → AreMade IsDated p
-made_of ts p spelled range none = program_made IsDated p (plains ts) spelled (dated_tokens (plains ts) range (none_nameless ts none))
+pub made_of : MomentsAreKept → (ts : Tokens) (p : Forms) → Spells p (kinds_of ts) → AllByRecursion IsInRange (kinds_of ts) → first_nameless ts ≡ None → AreBoth (IsMade IsDated) p
+made_of kept ts p spelled range none =
+    let made : AreMade IsDated p = kept p (kinds_of ts) spelled (dated_tokens ts range none) in
+    (made.0, second_made p.second p.first made)
+
+kinds_range : (ts : List Placed) → AllByRecursion IsInRange (plains ts) → nameless_in ts ≡ None → AllByRecursion (HasMoment IsDated) (plains ts)
+kinds_range [] h none = tt
+kinds_range (placed.Moment None place ∷ ts) h none = absurd cc
+kinds_range (placed.Moment (Some s) place ∷ ts) h none = (h.0, kinds_range ts h.1 none)
+kinds_range (t ∷ ts) h none = (tt, kinds_range ts h.1 none)
+
+pub made_from : MomentsAreKept → (ts : List Placed) (p : Forms) → Spells p (plains ts) → AllByRecursion IsInRange (plains ts) → nameless_in ts ≡ None → AreBoth (IsMade IsDated) p
+made_from kept ts p spelled range none =
+    let made : AreMade IsDated p = kept p (plains ts) spelled (kinds_range ts range none) in
+    (made.0, second_made p.second p.first made)
 
 given_at : (closed : Bool) (m : Option Stamp) → IsDated m → IsGiven (bound_at closed m)
 given_at closed None h = absurd h
@@ -60,40 +74,68 @@ given : (b : Option SpanBound) → BoundHas IsDated b → IsGiven (bound_of b)
 given None h = tt
 given (Some b) h = given_at b.closed b.stamp h
 
+some_dated : (m : Option Stamp) → IsDated m → is_some m ≡ true
+some_dated None h = absurd h
+some_dated (Some s) h = refl
+
+pub named : (b : Option SpanBound) → BoundHas IsDated b → is_named b ≡ true
+named None h = refl
+named (Some b) h = some_dated b.stamp h
+
 given_bounds : (t : Form) → IsMade IsDated t → HasGivenBounds t
 given_bounds forms.Empty h = tt
 given_bounds (forms.Listed ms) h = tt
 given_bounds (forms.Span low high) h = (given low h.0, given high h.1)
+given_bounds (forms.Rule freq fields) h = tt
 given_bounds (forms.Joined op a b) h = (given_bounds a h.0, given_bounds b h.1)
 given_bounds (forms.Inverse a) h = given_bounds a h
 
-second_given : (o : Option Form) → IsMadeSecond IsDated o → SecondHasGivenBounds o
+second_given : (o : Option Form) → IsSecond (IsMade IsDated) o → IsSecond HasGivenBounds o
 second_given None h = tt
 second_given (Some t) h = given_bounds t h
 
-pub all_given : (p : Forms) → AreMade IsDated p → AllHaveGivenBounds p
+pub all_given : (p : Forms) → AreBoth (IsMade IsDated) p → AreBoth HasGivenBounds p
 all_given p h = (given_bounds p.first h.0, second_given p.second h.1)
 
 has_spans : (t : Form) → IsMade IsDated t → AllByRecursion HasPosition (spans_of t) → HasSpans t
 has_spans forms.Empty h held = tt
 has_spans (forms.Listed ms) h held = tt
 has_spans (forms.Span low high) h held = record { low_given = given low h.0; high_given = given high h.1; some = held.0 }
+has_spans (forms.Rule freq fields) h held = tt
 has_spans (forms.Joined op a b) h held =
     (has_spans a h.0 (all_front HasPosition (spans_of a) (spans_of b) held), has_spans b h.1 (all_behind HasPosition (spans_of a) (spans_of b) held))
 has_spans (forms.Inverse a) h held = has_spans a h held
 
-second_spans_held : (o : Option Form) → IsMadeSecond IsDated o → AllByRecursion HasPosition (second_spans o) → SecondHasSpans o
+second_spans_held : (o : Option Form) → IsSecond (IsMade IsDated) o → AllByRecursion HasPosition (second_spans o) → IsSecond HasSpans o
 second_spans_held None h held = tt
 second_spans_held (Some t) h held = has_spans t h held
 
-pub all_have_spans : (p : Forms) → AreMade IsDated p → AllByRecursion HasPosition (all_spans_of p) → AllHaveSpans p
+pub all_have_spans : (p : Forms) → AreBoth (IsMade IsDated) p → AllByRecursion HasPosition (all_spans_of p) → AreBoth HasSpans p
 all_have_spans p h held =
     (has_spans p.first h.0 (all_front HasPosition (spans_of p.first) (second_spans p.second) held), second_spans_held p.second h.1 (all_behind HasPosition (spans_of p.first) (second_spans p.second) held))
 
-stamps_in_range : (ms : List (Option Stamp)) → AllByRecursion IsDated ms → AllByRecursion (λ (s : Stamp). IsCalendarMoment s.moment.0) (stamps_of ms)
-stamps_in_range [] h = tt
-stamps_in_range (None ∷ ms) h = absurd h.0
-stamps_in_range (Some s ∷ ms) h = (h.0, stamps_in_range ms h.1)
+-- the moments of literals that name them
+record Stamped (ms : List (Option Stamp)) : Type 0 where
+  stamps : List Stamp
+  are : stamps_of ms ≡ Some stamps
+  in_range : AllByRecursion (λ (s : Stamp). IsCalendarMoment s.moment.0) stamps
+
+stamped : (ms : List (Option Stamp)) → AllByRecursion IsDated ms → Stamped ms
+stamped [] h = record { stamps = []; are = refl; in_range = tt }
+stamped (None ∷ ms) h = absurd h.0
+stamped (Some s ∷ ms) h =
+    let others = stamped ms h.1 in
+    record { stamps = s ∷ others.stamps; are = ap (both (λ x xs. x ∷ xs) (Some s)) others.are; in_range = (h.0, others.in_range) }
+
+-- a filter keeps them all
+stamps_kept : (ms : List (Option Stamp)) → AllByRecursion IsDated ms → stamps_of ms ≡ Some (filter_map (λ (m : Option Stamp). m) ms)
+stamps_kept [] h = refl
+stamps_kept (None ∷ ms) h = absurd h.0
+stamps_kept (Some s ∷ ms) h = ap (both (λ x xs. x ∷ xs) (Some s)) (stamps_kept ms h.1)
+
+pub listed_from : (ms : List (Option Stamp)) (stamps : List Stamp) → IsMade IsDated (forms.Listed ms) → stamps ≡ filter_map (λ (m : Option Stamp). m) ms → tree_from (forms.Listed ms) ≡ Some (listed stamps)
+listed_from [] stamps h e = absurd h
+listed_from (m ∷ ms) stamps h e = rw e (ap (option_map listed) (stamps_kept (m ∷ ms) h))
 
 clock_at_moment : (absolute closed : Bool) (s : Stamp) → s.absolute ≡ absolute → HasClock (bound_at closed (Some s)) (clock_at (Some s))
 clock_at_moment true true s e = rw e ((λ is. absurd cc), (λ is. absurd cc))
@@ -109,23 +151,59 @@ has_clock : (b : Option SpanBound) → BoundHas IsDated b → HasClock (bound_of
 has_clock None h = ((λ _. refl), (λ _. refl))
 has_clock (Some b) h = clock_at_bound b.closed b.stamp h
 
-pub well_formed : (t : Form) → IsMade IsDated t → HasSpans t → IsWellFormed (tree_from t)
-well_formed forms.Empty h spans = tt
-well_formed (forms.Listed []) h spans = absurd h
-well_formed (forms.Listed (None ∷ ms)) h spans = absurd h.0
-well_formed (forms.Listed (Some s ∷ ms)) h spans =
-    (omega arith, All-from_recursion (λ (x : Stamp). IsCalendarMoment x.moment.0) (s ∷ stamps_of ms) (h.0, stamps_in_range ms h.1))
-well_formed (forms.Span low high) h spans = (spans, has_clock low h.0, has_clock high h.1)
-well_formed (forms.Joined operators.Union a b) h spans = (well_formed a h.0 spans.0, well_formed b h.1 spans.1)
-well_formed (forms.Joined operators.Meet a b) h spans = (well_formed a h.0 spans.0, well_formed b h.1 spans.1)
-well_formed (forms.Joined operators.Minus a b) h spans = (well_formed a h.0 spans.0, well_formed b h.1 spans.1)
-well_formed (forms.Inverse a) h spans = well_formed a h spans
+-- a well-formed tree of the expression's size
+pub record Stands (t : Form) : Type 0 where
+  pub tree : Tree Rule
+  pub is : tree_from t ≡ Some tree
+  pub well_formed : rule_fault t ≡ None → IsWellFormed tree
+  pub size : nodes_of tree ≡ size_of t
 
-both_well_formed : (t : Form) (o : Option Form) → AreMade IsDated (record { first = t; second = o }) → AllHaveSpans (record { first = t; second = o }) → AreWellFormed (trees_from (record { first = t; second = o }))
-both_well_formed t None h spans = (well_formed t h.0 spans.0, tt)
-both_well_formed t (Some u) h spans = (well_formed t h.0 spans.0, well_formed u h.1 spans.1)
+pub stands : (t : Form) → IsMade IsDated t → HasSpans t → Stands t
+stands forms.Empty h spans = record { tree = Empty; is = refl; well_formed = λ none. tt; size = refl }
+stands (forms.Listed []) h spans = absurd h
+stands (forms.Listed (None ∷ ms)) h spans = absurd h.0
+stands (forms.Listed (Some s ∷ ms)) h spans =
+    let others = stamped ms h.1 in
+    record {
+      tree = listed (s ∷ others.stamps);
+      is = rw others.are refl;
+      well_formed = λ none. (omega arith, All-from_recursion (λ (x : Stamp). IsCalendarMoment x.moment.0) (s ∷ others.stamps) (h.0, others.in_range));
+      size = refl;
+    }
+stands (forms.Span low high) h spans = record {
+  tree = Spanned (bound_of low, bound_of high) (clock_of low) (clock_of high);
+  is = rw (named low h.0, named high h.1) refl;
+  well_formed = λ none. (spans, has_clock low h.0, has_clock high h.1);
+  size = refl;
+}
+stands (forms.Rule freq fields) h spans =
+    let x = started fields h.0 in
+    record {
+      tree = Ruled (Field (rule_with freq fields x.start));
+      is = rw x.found refl;
+      well_formed = λ none. (checked (check_of (rule_with freq fields x.start)) (rw x.found at none), x.in_range);
+      size = refl;
+    }
+stands (forms.Joined op a b) h spans =
+    let x = stands a h.0 spans.0 in
+    let y = stands b h.1 spans.1 in
+    record { tree = Joined op x.tree y.tree; is = rw (x.is, y.is) refl; well_formed = λ none. let both = neither (rule_fault a) (rule_fault b) none in (x.well_formed both.0, y.well_formed both.1); size = omega (arith, x.size, y.size) }
+stands (forms.Inverse a) h spans = let x = stands a h spans in record { tree = Not x.tree; is = rw x.is refl; well_formed = x.well_formed; size = omega (arith, x.size) }
 
-pub accepted_well_formed : (ts : List Token) (p : Forms) → AllByRecursion IsInRange ts → HasMoments ts p → AreWellFormed (trees_from p)
-accepted_well_formed ts p range h =
-    let made : AreMade IsDated p = program_made IsDated p ts h.forms.spelled (dated_tokens ts range h.named) in
-    both_well_formed p.first p.second made (all_have_spans p made h.held)
+-- the same of one or two expressions
+pub record AllStand (p : Forms) : Type 0 where
+  pub trees : Trees
+  pub are : trees_from p ≡ Some trees
+  pub well_formed : AreWellFormed trees
+
+with_second : (t : Form) (o : Option Form) → Stands t → IsSecond (IsMade IsDated) o → IsSecond HasSpans o
+    → rule_fault t ≡ None → second_rule_fault o ≡ None → AllStand (record { first = t; second = o })
+with_second t None x h spans none also = record { trees = record { first = x.tree; second = None }; are = rw x.is refl; well_formed = (x.well_formed none, tt) }
+with_second t (Some u) x h spans none also =
+    let y = stands u h spans in
+    record { trees = record { first = x.tree; second = Some y.tree }; are = rw (x.is, y.is) refl; well_formed = (x.well_formed none, y.well_formed also) }
+
+pub all_stand : (p : Forms) → AreBoth (IsMade IsDated) p → AreBoth HasSpans p → first_rule_fault p ≡ None → AllStand p
+all_stand p h spans none =
+    let both = neither (rule_fault p.first) (second_rule_fault p.second) none in
+    with_second p.first p.second (stands p.first h.0 spans.0) h.1 spans.1 both.0 both.1

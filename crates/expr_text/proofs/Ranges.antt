@@ -8,11 +8,11 @@ use Rattle.moment_core.specs.declared.line.Stamp.{Stamp}
 use Rattle.moment_core.specs.declared.line.TheConstants.{LOW, WIDTH}
 use Rattle.expr_tokens.specs.declared.class.Class.TheVariants as classes
 use Rattle.expr_tokens.specs.declared.token.Token.{Token as Placed}
-use Rattle.expr_tokens.specs.declared.token.Operator.TheVariants as operators
+use Rattle.moment_core.specs.declared.joining.Op.TheVariants as operators
 use Rattle.expr_tokens.specs.declared.token.Word.{Word}
 use Rattle.expr_tokens.specs.Class.{front_of, holds}
 use Rattle.expr_tokens.specs.Names.{word_of}
-use Rattle.expr_tokens.specs.Plain.{Token, plain, plains}
+use Rattle.expr_tokens.specs.Plain.{Token, plains}
 use Rattle.expr_tokens.specs.Plain as tokens
 use Rattle.expr_tokens.specs.Reading.{AreFound, Found, Front, IsFound, and_then, figures_at, name_at, named, number_at, quote_at, reading_from, reading_of, sign_of, signed_at, text_at, token_at, with_rest, with_token}
 use Rattle.expr_tokens.specs.Stamps.{is_literal, stamp_of, stamps}
@@ -122,14 +122,14 @@ and_then_in_range : (left : ℕ) (front : Front) (others : List ℕ → Found) �
 and_then_in_range left None others h k = tt
 and_then_in_range left (Some x) others h k = with_token_in_range (x.0, left) (others x.1) (h.holds x refl) (k x.1)
 
-reading_in_range : (n : ℕ) (bytes : List ℕ) → FoundInRange (reading_from n bytes)
+steps_in_range : (n : ℕ) (bytes : List ℕ) → FoundInRange (reading_from n bytes)
 unfolding reading_from
-reading_in_range zero bytes = tt
-reading_in_range (suc n) [] = tt
-reading_in_range (suc n) (b ∷ bytes) =
-    let token = and_then_in_range (suc (length bytes)) (token_at b bytes) (reading_from n) (token_in_range b bytes) (reading_in_range n) in
+steps_in_range zero bytes = tt
+steps_in_range (suc n) [] = tt
+steps_in_range (suc n) (b ∷ bytes) =
+    let token = and_then_in_range (suc (length bytes)) (token_at b bytes) (reading_from n) (token_in_range b bytes) (steps_in_range n) in
     let P : Bool → Type 0 = λ v. FoundInRange (cond v (reading_from n bytes) (and_then (suc (length bytes)) (token_at b bytes) (reading_from n))) in
-    let go : (v : Bool) → P v = λ v. elim v as P [ true ↦ reading_in_range n bytes | false ↦ token ] in
+    let go : (v : Bool) → P v = λ v. elim v as P [ true ↦ steps_in_range n bytes | false ↦ token ] in
     go (holds classes.Blank b)
 
 zipped : (total : ℕ) (ts : List Placed) (found : List (Token × ℕ)) → AllZip (IsFound total) ts found → AllByRecursion (λ (x : Token × ℕ). IsInRange x.0) found → AllByRecursion IsInRange (plains ts)
@@ -138,8 +138,9 @@ zipped total [] (x ∷ found) each h = absurd each
 zipped total (t ∷ ts) [] each h = absurd each
 zipped total (t ∷ ts) (x ∷ found) each h = (rw each.0.same h.0, zipped total ts found each.1 h.1)
 
-pub tokens_in_range : (text : List ℕ) (ts : List Placed) → AreFound text ts → AllByRecursion IsInRange (plains ts)
+pub reading_in_range : (text : List ℕ) (found : List (Token × ℕ)) → reading_of text ≡ Ok found → AllByRecursion (λ (x : Token × ℕ). IsInRange x.0) found
 unfolding reading_of
-tokens_in_range text ts h =
-    let read : FoundInRange (reading_from (length text) text) = reading_in_range (length text) text in
-    zipped (length text) ts h.found h.each (subst FoundInRange h.read read)
+reading_in_range text found read = let all : FoundInRange (reading_from (length text) text) = steps_in_range (length text) text in subst FoundInRange read all
+
+pub tokens_in_range : (text : List ℕ) (ts : List Placed) → AreFound text ts → AllByRecursion IsInRange (plains ts)
+tokens_in_range text ts h = zipped (length text) ts h.found h.each (reading_in_range text h.found h.read)

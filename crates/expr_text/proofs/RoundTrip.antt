@@ -1,37 +1,52 @@
 -- The printed form is read back as its trees.
-use Rattle.std.proofs.Common.{◌≡◌, ℕ, ◌≤◌, Bool, true, false, ◌&&◌, cond, List, [], ◌∷◌, ◌++◌, length, Option, Some, None, Ok, refl, sym, ap, subst, ◌∙◌, append_assoc, arith}
+use Rattle.std.proofs.Common.{◌≡◌, ℕ, ℤ, ◌≤◌, Bool, true, false, ◌&&◌, cond, List, [], ◌∷◌, ◌++◌, length, Option, Some, None, Ok, refl, sym, ap, subst, ◌∙◌, append_assoc, arith}
 use Rattle.std.specs.Prelude.{codes, option_map}
-use Rattle.std.specs.List.{AllByRecursion, flat_map, list_any}
+use Rattle.std.specs.List.{AllByRecursion, flat_map}
 use Rattle.std.proofs.lemmas.List.Concat.{flat_map-cons}
 use Rattle.std.proofs.lemmas.List.Elements.{recursion_from_All}
 use Rattle.moment_core.specs.Line.{IsCalendarMoment}
 use Rattle.moment_core.specs.declared.line.Clock.{Clock}
 use Rattle.moment_core.specs.declared.line.Moment.{Moment}
 use Rattle.moment_core.specs.declared.line.Stamp.{Stamp}
-use Rattle.moment_text.specs.Laws.{LiteralsAreShaped, LiteralsTellMomentsApart, begins_with_zone}
+use Rattle.moment_text.specs.Laws.{begins_with_zone}
 use Rattle.span_core.specs.Bounds.{IsGiven}
 use Rattle.span_core.specs.declared.bounds.Bound.{Bound}
 use Rattle.span_core.specs.declared.bounds.Bound.TheVariants.{Closed, Open, Inf, Edge}
-use Rattle.expr_tokens.specs.declared.token.Operator.{Operator}
-use Rattle.expr_tokens.specs.declared.token.Operator.TheVariants as operators
+use Rattle.moment_core.specs.declared.joining.Op.{Op}
+use Rattle.moment_core.specs.declared.joining.Op.TheVariants.{Union, Meet, Minus}
 use Rattle.expr_tokens.specs.declared.token.Word.{Word}
 use Rattle.expr_tokens.specs.declared.token.Word.TheVariants as words
 use Rattle.expr_tokens.specs.Plain.{Token}
 use Rattle.expr_tokens.specs.Plain as tokens
 use Rattle.expr_tokens.specs.Names.{name_of}
-use Rattle.expr_tokens.proofs.Writing.{Lexes, Lexes-all, Lexes-append, Lexes-close, Lexes-comma, Lexes-exclamation, Lexes-left_brace, Lexes-meet, Lexes-minus, Lexes-moment, Lexes-nothing, Lexes-open, Lexes-right_brace, Lexes-semicolon, Lexes-space, Lexes-union, Lexes-word}
+use Rattle.expr_tokens.specs.Laws.{Lexes}
+use Rattle.expr_text.proofs.Signs.{Writing, Lexes-close, Lexes-comma, Lexes-exclamation, Lexes-left_brace, Lexes-meet, Lexes-minus, Lexes-open, Lexes-right_brace, Lexes-semicolon, Lexes-union}
 use Rattle.expr_grammar.specs.declared.syntax.SpanBound.{SpanBound}
-use Rattle.expr_grammar.specs.Nesting.{bounds_tokens, high_word, in_brackets, is_joined, low_word, more_tokens, spelled, spelled_program, spelled_second}
-use Rattle.expr_grammar.proofs.Lists.{all_both}
-use Rattle.expr_grammar.proofs.Spelled.{program_spelled}
-use Rattle.expr_tree.specs.Tree.{Tree, Empty, Listed, Spanned, Union, Meet, Minus, Not, Trees, trees_of}
+use Rattle.std.specs.Option.{option_to_list}
+use Rattle.rule_core.specs.Laws.{FieldIntervalFits, FieldValuesFit}
+use Rattle.rule_core.specs.declared.field.FieldRule.{FieldRule}
+use Rattle.rule_core.specs.declared.part.Freq.{Freq}
+use Rattle.rule_core.specs.declared.part.Freq.TheVariants as freqs
+use Rattle.expr_grammar.specs.declared.syntax.Key.{Key}
+use Rattle.expr_grammar.specs.declared.syntax.Key.TheVariants as keys
+use Rattle.expr_grammar.specs.Fields.{field_tokens, fields_tokens, freq_word, key_word, more_numbers, rule_tokens}
+use Rattle.expr_grammar.specs.Form.{FieldForm, Values, Start}
 use Rattle.expr_tree.specs.WellFormed.{IsWellFormed}
-use Rattle.expr_tree.specs.declared.tree.Program.{Program}
-use Rattle.expr_text.specs.Accepted.{AreAccepted, AreWellFormed, IsAnswer, IsWellFormedSecond, LONGEST}
+use Rattle.expr_text.specs.Fields.{interval_printed}
+use Rattle.expr_text.proofs.RulesBack.{rule_back, with_numbers, with_start, written_fields}
+use Rattle.expr_text.proofs.RuleText.{rule_lexes}
+use Rattle.expr_grammar.specs.Nesting.{bounds_tokens, high_word, in_brackets, is_joined, low_word, more_tokens, spelled, spelled_program, spelled_second}
+use Rattle.moment_core.proofs.Lists.{all_both}
+use Rattle.expr_grammar.specs.Laws.{PrintedIsSpelled}
+use Rattle.expr_tree.specs.Tree.{Rule, Listed, Field, Tree, Empty, Spanned, Ruled, Joined, Not, Trees}
+use Rattle.expr_text.specs.Accepted.{AreRead, AreWellFormed, IsRead, IsWellFormedSecond, held, sorted, spelled as spelled_so}
+use Rattle.expr_text.specs.declared.fault.TheConstants.{LONGEST}
+use Rattle.phases.specs.Phases.{goes_on}
 use Rattle.expr_text.specs.Calls.{calls_unbuilt, names_unbuilt}
-use Rattle.expr_text.specs.Faults.{HasPosition, is_nameless, second_spans, sort_fault, spans_of}
-use Rattle.expr_text.specs.Printing.{bracketed, comma_text, high_text, is_at_moment, is_join, low_text, moment_text, next_stamp, print, print_program, print_second, stamp_text}
+use Rattle.expr_text.specs.Faults.{HasPosition, Tokens, first_nameless, first_rule_fault, is_nameless, kinds_of, rule_fault, second_rule_fault, second_spans, sort_fault, spans_of}
+use Rattle.expr_text.specs.Printing.{bracketed, comma_text, high_text, is_at_moment, is_join, low_text, moment_text, next_stamp, print, print_program, print_second, sign_text, stamp_text}
 use Rattle.expr_text.specs.Trees.{bound_of}
+use Rattle.expr_text.proofs.Places.{short_text, stand_in}
 use Rattle.expr_text.proofs.Written.{all_printable, all_written, bound_back, joined_same, literals_of, stamp_at, trees_back, written, written_bound}
 
 along : (a b : List ℕ) (ts : List Token) (rest : List ℕ) → a ≡ b → Lexes b ts rest → Lexes a ts rest
@@ -39,33 +54,6 @@ along a b ts rest e h = subst (λ (x : List ℕ). Lexes x ts rest) (sym e) h
 
 spelled_as : (a : List ℕ) (ts us : List Token) (rest : List ℕ) → us ≡ ts → Lexes a ts rest → Lexes a us rest
 spelled_as a ts us rest e h = subst (λ (x : List Token). Lexes a x rest) (sym e) h
-
--- three texts, one behind the other
-three : (a b c : List ℕ) (ts us vs : List Token) (rest : List ℕ) → Lexes a ts ((b ++ c) ++ rest) → Lexes b us (c ++ rest) → Lexes c vs rest → Lexes (a ++ b ++ c) (ts ++ (us ++ vs)) rest
-three a b c ts us vs rest first second third =
-    along (a ++ b ++ c) (a ++ (b ++ c)) (ts ++ (us ++ vs)) rest (append_assoc a b c) (Lexes-append a (b ++ c) ts (us ++ vs) rest first (Lexes-append b c us vs rest second third))
-
--- a sign between two spaces
-spaced : (b : ℕ) (t : Token) (rest : List ℕ) → Lexes (b ∷ []) (t ∷ []) (32 ∷ rest) → Lexes (32 ∷ b ∷ 32 ∷ []) (t ∷ []) rest
-spaced b t rest h = Lexes-append (32 ∷ []) (b ∷ 32 ∷ []) [] (t ∷ []) rest (Lexes-space (b ∷ 32 ∷ rest)) (Lexes-append (b ∷ []) (32 ∷ []) (t ∷ []) [] rest h (Lexes-space rest))
-
-comma : (rest : List ℕ) → Lexes (codes ", ") (tokens.Comma ∷ []) rest
-comma rest = Lexes-append (44 ∷ []) (32 ∷ []) (tokens.Comma ∷ []) [] rest (Lexes-comma (32 ∷ rest)) (Lexes-space rest)
-
--- a word and a space
-word_space : (w : Word) (rest : List ℕ) → Lexes (name_of w ++ codes " ") (tokens.Word w ∷ []) rest
-word_space w rest = Lexes-append (name_of w) (32 ∷ []) (tokens.Word w ∷ []) [] rest (Lexes-word w (32 ∷ rest) refl) (Lexes-space rest)
-
--- a word and a bracket
-word_open : (w : Word) (rest : List ℕ) → Lexes (name_of w ++ codes "(") (tokens.Word w ∷ tokens.Open ∷ []) rest
-word_open w rest = Lexes-append (name_of w) (40 ∷ []) (tokens.Word w ∷ []) (tokens.Open ∷ []) rest (Lexes-word w (40 ∷ rest) refl) (Lexes-open rest)
-
-empty_call : (rest : List ℕ) → Lexes (codes "empty()") (tokens.Word words.Empty ∷ tokens.Open ∷ tokens.Close ∷ []) rest
-empty_call rest = Lexes-append (codes "empty(") (41 ∷ []) (tokens.Word words.Empty ∷ tokens.Open ∷ []) (tokens.Close ∷ []) rest (word_open words.Empty (41 ∷ rest)) (Lexes-close rest)
-
-brackets_lex : (b : Bool) (text : List ℕ) (ts : List Token) (rest : List ℕ) → ((r : List ℕ) → Lexes text ts r) → Lexes (bracketed b text) (in_brackets b ts) rest
-brackets_lex false text ts rest h = h rest
-brackets_lex true text ts rest h = three (codes "(") text (codes ")") (tokens.Open ∷ []) ts (tokens.Close ∷ []) rest (Lexes-open ((text ++ codes ")") ++ rest)) (h (codes ")" ++ rest)) (Lexes-close rest)
 
 -- what the printed bounds of a span are read as
 abbrev low_tokens : Option SpanBound → List Token
@@ -94,10 +82,6 @@ given_same (Closed t) clock = refl
 given_same (Open t) clock = refl
 given_same Inf clock = refl
 given_same Edge clock = refl
-
-comma_lexes : (b : Bool) (rest : List ℕ) → Lexes (cond b (codes ", ") []) (comma_tokens b) rest
-comma_lexes true rest = comma rest
-comma_lexes false rest = Lexes-nothing rest
 
 -- no Z stands behind a bound
 no_zone_high : (b : Bool) (high : Bound) (clock : Clock) (rest : List ℕ) → begins_with_zone (cond (b && is_at_moment high) (codes ", ") [] ++ (high_text high clock ++ (codes ")" ++ rest))) ≡ false
@@ -143,22 +127,92 @@ plain_bounds Inf Edge low high = tt
 plain_bounds Edge Inf low high = tt
 plain_bounds Edge Edge low high = tt
 
-plain_joined : (op : Operator) (b c : Bool) (ts us : List Token) → ArePlain ts → ArePlain us → ArePlain (in_brackets b ts ++ tokens.Operator op ∷ in_brackets c us)
+plain_joined : (op : Op) (b c : Bool) (ts us : List Token) → ArePlain ts → ArePlain us → ArePlain (in_brackets b ts ++ tokens.Operator op ∷ in_brackets c us)
 plain_joined op b c ts us h k = all_both IsPlain (in_brackets b ts) (tokens.Operator op ∷ in_brackets c us) (plain_brackets b ts h) ((refl, refl), plain_brackets c us k)
 
-plain_spelled : (t : Tree) → IsWellFormed t → ArePlain (spelled (written t))
+plain_freq : (freq : Freq) → IsPlain (tokens.Word (freq_word freq))
+plain_freq freqs.Yearly = (refl, refl)
+plain_freq freqs.Monthly = (refl, refl)
+plain_freq freqs.Weekly = (refl, refl)
+plain_freq freqs.Daily = (refl, refl)
+plain_freq freqs.Hourly = (refl, refl)
+plain_freq freqs.Minutely = (refl, refl)
+plain_freq freqs.Secondly = (refl, refl)
+
+plain_key : (key : Key) → IsPlain (tokens.Word (key_word key))
+plain_key keys.Months = (refl, refl)
+plain_key keys.Weeks = (refl, refl)
+plain_key keys.Days = (refl, refl)
+plain_key keys.Hours = (refl, refl)
+plain_key keys.Minutes = (refl, refl)
+plain_key keys.Seconds = (refl, refl)
+plain_key keys.Interval = (refl, refl)
+plain_key keys.WeekStart = (refl, refl)
+
+plain_numbers : (ns : List ℤ) → ArePlain (more_numbers ns)
+plain_numbers [] = tt
+plain_numbers (n ∷ ns) = ((refl, refl), ((refl, refl), plain_numbers ns))
+
+-- a start names a moment
+abbrev IsNamedField : FieldForm → Type 0
+IsNamedField (Values key ns) = Unit {0}
+IsNamedField (Start None) = ⊥
+IsNamedField (Start (Some s)) = Unit {0}
+
+plain_field : (f : FieldForm) → IsNamedField f → ArePlain (field_tokens f)
+plain_field (Values key []) h = (plain_key key, ((refl, refl), tt))
+plain_field (Values key (n ∷ ns)) h = (plain_key key, ((refl, refl), ((refl, refl), plain_numbers ns)))
+plain_field (Start None) h = absurd h
+plain_field (Start (Some s)) h = ((refl, refl), ((refl, refl), ((refl, refl), tt)))
+
+plain_fields : (fields : List FieldForm) → AllByRecursion IsNamedField fields → ArePlain (fields_tokens fields)
+plain_fields [] h = tt
+plain_fields (f ∷ fields) h = all_both IsPlain (field_tokens f) (fields_tokens fields) (plain_field f h.0) (plain_fields fields h.1)
+
+plain_rule : (freq : Freq) (fields : List FieldForm) → AllByRecursion IsNamedField fields → ArePlain (rule_tokens freq fields)
+plain_rule freq fields h = (plain_freq freq, ((refl, refl), all_both IsPlain (fields_tokens fields) (tokens.Close ∷ []) (plain_fields fields h) ((refl, refl), tt)))
+
+numbers_named : (key : Key) (ns : List ℤ) (fields : List FieldForm) → AllByRecursion IsNamedField fields → AllByRecursion IsNamedField (with_numbers key ns fields)
+numbers_named key [] fields h = h
+numbers_named key (n ∷ ns) fields h = (tt, h)
+
+start_named : (o : Option Stamp) (fields : List FieldForm) → AllByRecursion IsNamedField fields → AllByRecursion IsNamedField (with_start o fields)
+start_named None fields h = h
+start_named (Some s) fields h = (tt, h)
+
+named_fields : (r : FieldRule) → AllByRecursion IsNamedField (written_fields r)
+named_fields r =
+    numbers_named keys.Months r.months _ (numbers_named keys.Weeks r.weeks _ (numbers_named keys.Days r.days _ (numbers_named keys.Hours r.hours _
+    (numbers_named keys.Minutes r.minutes _ (numbers_named keys.Seconds r.seconds _ (numbers_named keys.Interval (interval_printed r.interval) _
+    (start_named r.start _ (numbers_named keys.WeekStart (option_to_list r.week_start) [] tt))))))))
+
+no_fault : (t : Tree Rule) → IsWellFormed t → rule_fault (written t) ≡ None
+no_fault Empty h = refl
+no_fault (Ruled (Listed stamps)) h = refl
+no_fault (Spanned bounds low high) h = refl
+no_fault (Ruled (Field rule)) h = rw (rule_back rule, h.0) refl
+no_fault (Joined op a b) h = rw (no_fault a h.0, no_fault b h.1) refl
+no_fault (Not a) h = no_fault a h
+
+no_second_fault : (o : Option (Tree Rule)) → IsWellFormedSecond o → second_rule_fault (option_map written o) ≡ None
+no_second_fault None h = refl
+no_second_fault (Some t) h = no_fault t h
+
+no_rule_fault : (p : Trees) → AreWellFormed p → first_rule_fault (all_written p) ≡ None
+no_rule_fault p h = rw (no_fault p.first h.0, no_second_fault p.second h.1) refl
+
+plain_spelled : (t : Tree Rule) → IsWellFormed t → ArePlain (spelled (written t))
 unfolding spelled
 plain_spelled Empty h = ((refl, refl), ((refl, refl), ((refl, refl), tt)))
-plain_spelled (Listed []) h = absurd (omega (arith, h.0))
-plain_spelled (Listed (s ∷ ss)) h = ((refl, refl), ((refl, refl), plain_more ss))
+plain_spelled (Ruled (Listed [])) h = absurd (omega (arith, h.0))
+plain_spelled (Ruled (Listed (s ∷ ss))) h = ((refl, refl), ((refl, refl), plain_more ss))
 plain_spelled (Spanned bounds low high) h =
     ((refl, refl), ((refl, refl), all_both IsPlain (bounds_tokens (written_bound bounds.0 low) (written_bound bounds.1 high)) (tokens.Close ∷ []) (plain_bounds bounds.0 bounds.1 low high) ((refl, refl), tt)))
-plain_spelled (Union a b) h = plain_joined operators.Union (is_joined (written a)) (is_joined (written b)) (spelled (written a)) (spelled (written b)) (plain_spelled a h.0) (plain_spelled b h.1)
-plain_spelled (Meet a b) h = plain_joined operators.Meet (is_joined (written a)) (is_joined (written b)) (spelled (written a)) (spelled (written b)) (plain_spelled a h.0) (plain_spelled b h.1)
-plain_spelled (Minus a b) h = plain_joined operators.Minus (is_joined (written a)) (is_joined (written b)) (spelled (written a)) (spelled (written b)) (plain_spelled a h.0) (plain_spelled b h.1)
+plain_spelled (Ruled (Field rule)) h = plain_rule rule.freq (written_fields rule) (named_fields rule)
+plain_spelled (Joined op a b) h = plain_joined op (is_joined (written a)) (is_joined (written b)) (spelled (written a)) (spelled (written b)) (plain_spelled a h.0) (plain_spelled b h.1)
 plain_spelled (Not a) h = ((refl, refl), plain_brackets (is_joined (written a)) (spelled (written a)) (plain_spelled a h))
 
-plain_second : (o : Option Tree) → IsWellFormedSecond o → ArePlain (spelled_second (option_map written o))
+plain_second : (o : Option (Tree Rule)) → IsWellFormedSecond o → ArePlain (spelled_second (option_map written o))
 plain_second None h = tt
 plain_second (Some t) h = ((refl, refl), plain_spelled t h)
 
@@ -167,42 +221,77 @@ unfolding calls_unbuilt
 no_call [] h = refl
 no_call (t ∷ ts) h = rw (h.0.0) (no_call ts h.1)
 
-no_nameless : (ts : List Token) → ArePlain ts → list_any is_nameless ts ≡ false
+no_nameless : (ts : Tokens) → ArePlain (kinds_of ts) → first_nameless ts ≡ None
 no_nameless [] h = refl
 no_nameless (t ∷ ts) h = rw (h.0.1) (no_nameless ts h.1)
 
-spans_held : (t : Tree) → IsWellFormed t → AllByRecursion HasPosition (spans_of (written t))
+spans_held : (t : Tree Rule) → IsWellFormed t → AllByRecursion HasPosition (spans_of (written t))
 spans_held Empty h = tt
-spans_held (Listed stamps) h = tt
+spans_held (Ruled (Listed stamps)) h = tt
 spans_held (Spanned bounds low high) h =
     let position : HasPosition (bound_of (written_bound bounds.0 low), bound_of (written_bound bounds.1 high)) = rw (bound_back bounds.0 low h.0.low_given, bound_back bounds.1 high h.0.high_given) h.0.some in
     (position, tt)
-spans_held (Union a b) h = all_both HasPosition (spans_of (written a)) (spans_of (written b)) (spans_held a h.0) (spans_held b h.1)
-spans_held (Meet a b) h = all_both HasPosition (spans_of (written a)) (spans_of (written b)) (spans_held a h.0) (spans_held b h.1)
-spans_held (Minus a b) h = all_both HasPosition (spans_of (written a)) (spans_of (written b)) (spans_held a h.0) (spans_held b h.1)
+spans_held (Ruled (Field rule)) h = tt
+spans_held (Joined op a b) h = all_both HasPosition (spans_of (written a)) (spans_of (written b)) (spans_held a h.0) (spans_held b h.1)
 spans_held (Not a) h = spans_held a h
 
-second_held : (o : Option Tree) → IsWellFormedSecond o → AllByRecursion HasPosition (second_spans (option_map written o))
+second_held : (o : Option (Tree Rule)) → IsWellFormedSecond o → AllByRecursion HasPosition (second_spans (option_map written o))
 second_held None h = tt
 second_held (Some t) h = spans_held t h
 
-module _ (shaped : LiteralsAreShaped) (apart : LiteralsTellMomentsApart) where
+module _ (program_spelled : PrintedIsSpelled) (writing : Writing) (fit : FieldValuesFit) (intervals : FieldIntervalFits) where
+  -- three texts, one behind the other
+  three : (a b c : List ℕ) (ts us vs : List Token) (rest : List ℕ) → Lexes a ts ((b ++ c) ++ rest) → Lexes b us (c ++ rest) → Lexes c vs rest → Lexes (a ++ b ++ c) (ts ++ (us ++ vs)) rest
+  three a b c ts us vs rest first second third =
+      along (a ++ b ++ c) (a ++ (b ++ c)) (ts ++ (us ++ vs)) rest (append_assoc a b c) (writing.parts a (b ++ c) ts (us ++ vs) rest first (writing.parts b c us vs rest second third))
+
+  -- a sign between two spaces
+  spaced : (b : ℕ) (t : Token) (rest : List ℕ) → Lexes (b ∷ []) (t ∷ []) (32 ∷ rest) → Lexes (32 ∷ b ∷ 32 ∷ []) (t ∷ []) rest
+  spaced b t rest h = writing.parts (32 ∷ []) (b ∷ 32 ∷ []) [] (t ∷ []) rest (writing.spaces (b ∷ 32 ∷ rest)) (writing.parts (b ∷ []) (32 ∷ []) (t ∷ []) [] rest h (writing.spaces rest))
+
+  sign_lexes : (op : Op) (rest : List ℕ) → Lexes (sign_text op) (tokens.Operator op ∷ []) rest
+  sign_lexes Union rest = spaced 124 (tokens.Operator Union) rest (Lexes-union writing (32 ∷ rest))
+  sign_lexes Meet rest = spaced 38 (tokens.Operator Meet) rest (Lexes-meet writing (32 ∷ rest))
+  sign_lexes Minus rest = spaced 45 (tokens.Operator Minus) rest (Lexes-minus writing rest)
+
+  comma : (rest : List ℕ) → Lexes (codes ", ") (tokens.Comma ∷ []) rest
+  comma rest = writing.parts (44 ∷ []) (32 ∷ []) (tokens.Comma ∷ []) [] rest (Lexes-comma writing (32 ∷ rest)) (writing.spaces rest)
+
+  -- a word and a space
+  word_space : (w : Word) (rest : List ℕ) → Lexes (name_of w ++ codes " ") (tokens.Word w ∷ []) rest
+  word_space w rest = writing.parts (name_of w) (32 ∷ []) (tokens.Word w ∷ []) [] rest (writing.words w (32 ∷ rest) refl) (writing.spaces rest)
+
+  -- a word and a bracket
+  word_open : (w : Word) (rest : List ℕ) → Lexes (name_of w ++ codes "(") (tokens.Word w ∷ tokens.Open ∷ []) rest
+  word_open w rest = writing.parts (name_of w) (40 ∷ []) (tokens.Word w ∷ []) (tokens.Open ∷ []) rest (writing.words w (40 ∷ rest) refl) (Lexes-open writing rest)
+
+  empty_call : (rest : List ℕ) → Lexes (codes "empty()") (tokens.Word words.Empty ∷ tokens.Open ∷ tokens.Close ∷ []) rest
+  empty_call rest = writing.parts (codes "empty(") (41 ∷ []) (tokens.Word words.Empty ∷ tokens.Open ∷ []) (tokens.Close ∷ []) rest (word_open words.Empty (41 ∷ rest)) (Lexes-close writing rest)
+
+  brackets_lex : (b : Bool) (text : List ℕ) (ts : List Token) (rest : List ℕ) → ((r : List ℕ) → Lexes text ts r) → Lexes (bracketed b text) (in_brackets b ts) rest
+  brackets_lex false text ts rest h = h rest
+  brackets_lex true text ts rest h = three (codes "(") text (codes ")") (tokens.Open ∷ []) ts (tokens.Close ∷ []) rest (Lexes-open writing ((text ++ codes ")") ++ rest)) (h (codes ")" ++ rest)) (Lexes-close writing rest)
+
+  comma_lexes : (b : Bool) (rest : List ℕ) → Lexes (cond b (codes ", ") []) (comma_tokens b) rest
+  comma_lexes true rest = comma rest
+  comma_lexes false rest = writing.nothing rest
+
   stamp_lexes : (s : Stamp) (rest : List ℕ) → IsCalendarMoment s.moment.0 → begins_with_zone rest ≡ false → Lexes (stamp_text s) (tokens.Moment (Some s) ∷ []) rest
-  stamp_lexes s rest within stop = Lexes-moment shaped apart s.moment.0 s.absolute rest within stop
+  stamp_lexes s rest within stop = writing.moments s.moment.0 s.absolute rest within stop
 
   no_zone_more : (ss : List Stamp) (rest : List ℕ) → begins_with_zone ((flat_map next_stamp ss ++ codes "}") ++ rest) ≡ false
   no_zone_more [] rest = refl
   no_zone_more (s ∷ ss) rest = ap (λ (x : List ℕ). begins_with_zone ((x ++ codes "}") ++ rest)) (flat_map-cons next_stamp s ss)
 
   more_lexes : (ss : List Stamp) (rest : List ℕ) → AllByRecursion (λ (s : Stamp). IsCalendarMoment s.moment.0) ss → Lexes (flat_map next_stamp ss ++ codes "}") (more_tokens (literals_of ss)) rest
-  more_lexes [] rest h = Lexes-right_brace rest
+  more_lexes [] rest h = Lexes-right_brace writing rest
   more_lexes (s ∷ ss) rest h =
       let others = flat_map next_stamp ss ++ codes "}" in
       let e : flat_map next_stamp (s ∷ ss) ++ codes "}" ≡ codes ", " ++ (stamp_text s ++ others) =
       ap (λ (x : List ℕ). x ++ codes "}") (flat_map-cons next_stamp s ss) ∙ append_assoc (codes ", " ++ stamp_text s) (flat_map next_stamp ss) (codes "}") ∙ append_assoc (codes ", ") (stamp_text s) others in
       along (flat_map next_stamp (s ∷ ss) ++ codes "}") (codes ", " ++ (stamp_text s ++ others)) (more_tokens (literals_of (s ∷ ss))) rest e
-      (Lexes-append (codes ", ") (stamp_text s ++ others) (tokens.Comma ∷ []) (tokens.Moment (Some s) ∷ more_tokens (literals_of ss)) rest (comma ((stamp_text s ++ others) ++ rest))
-      (Lexes-append (stamp_text s) others (tokens.Moment (Some s) ∷ []) (more_tokens (literals_of ss)) rest (stamp_lexes s (others ++ rest) h.0 (no_zone_more ss rest)) (more_lexes ss rest h.1)))
+      (writing.parts (codes ", ") (stamp_text s ++ others) (tokens.Comma ∷ []) (tokens.Moment (Some s) ∷ more_tokens (literals_of ss)) rest (comma ((stamp_text s ++ others) ++ rest))
+      (writing.parts (stamp_text s) others (tokens.Moment (Some s) ∷ []) (more_tokens (literals_of ss)) rest (stamp_lexes s (others ++ rest) h.0 (no_zone_more ss rest)) (more_lexes ss rest h.1)))
 
   list_lexes : (s : Stamp) (ss : List Stamp) (rest : List ℕ) → AllByRecursion (λ (x : Stamp). IsCalendarMoment x.moment.0) (s ∷ ss)
       → Lexes (codes "{" ++ (stamp_text s ++ flat_map next_stamp ss) ++ codes "}") (tokens.LeftBrace ∷ tokens.Moment (Some s) ∷ more_tokens (literals_of ss)) rest
@@ -210,25 +299,25 @@ module _ (shaped : LiteralsAreShaped) (apart : LiteralsTellMomentsApart) where
       let others = flat_map next_stamp ss ++ codes "}" in
       let e : codes "{" ++ (stamp_text s ++ flat_map next_stamp ss) ++ codes "}" ≡ codes "{" ++ (stamp_text s ++ others) = ap (λ (x : List ℕ). codes "{" ++ x) (append_assoc (stamp_text s) (flat_map next_stamp ss) (codes "}")) in
       along (codes "{" ++ (stamp_text s ++ flat_map next_stamp ss) ++ codes "}") (codes "{" ++ (stamp_text s ++ others)) (tokens.LeftBrace ∷ tokens.Moment (Some s) ∷ more_tokens (literals_of ss)) rest e
-      (Lexes-append (codes "{") (stamp_text s ++ others) (tokens.LeftBrace ∷ []) (tokens.Moment (Some s) ∷ more_tokens (literals_of ss)) rest (Lexes-left_brace ((stamp_text s ++ others) ++ rest))
-      (Lexes-append (stamp_text s) others (tokens.Moment (Some s) ∷ []) (more_tokens (literals_of ss)) rest (stamp_lexes s (others ++ rest) h.0 (no_zone_more ss rest)) (more_lexes ss rest h.1)))
+      (writing.parts (codes "{") (stamp_text s ++ others) (tokens.LeftBrace ∷ []) (tokens.Moment (Some s) ∷ more_tokens (literals_of ss)) rest (Lexes-left_brace writing ((stamp_text s ++ others) ++ rest))
+      (writing.parts (stamp_text s) others (tokens.Moment (Some s) ∷ []) (more_tokens (literals_of ss)) rest (stamp_lexes s (others ++ rest) h.0 (no_zone_more ss rest)) (more_lexes ss rest h.1)))
 
   -- a word, a space and a moment
   word_moment : (w : Word) (t : Moment) (clock : Clock) (rest : List ℕ) → IsCalendarMoment t.0 → begins_with_zone rest ≡ false → Lexes ((name_of w ++ codes " ") ++ moment_text t clock) (tokens.Word w ∷ tokens.Moment (Some (stamp_at t clock)) ∷ []) rest
   word_moment w t clock rest within stop =
-      Lexes-append (name_of w ++ codes " ") (moment_text t clock) (tokens.Word w ∷ []) (tokens.Moment (Some (stamp_at t clock)) ∷ []) rest
+      writing.parts (name_of w ++ codes " ") (moment_text t clock) (tokens.Word w ∷ []) (tokens.Moment (Some (stamp_at t clock)) ∷ []) rest
       (word_space w (moment_text t clock ++ rest)) (stamp_lexes (stamp_at t clock) rest within stop)
 
   low_lexes : (b : Bound) (clock : Clock) (rest : List ℕ) → IsGiven b → begins_with_zone rest ≡ false → Lexes (low_text b clock) (low_tokens (written_bound b clock)) rest
   low_lexes (Closed t) clock rest h stop = word_moment words.Start t clock rest h stop
   low_lexes (Open t) clock rest h stop = word_moment words.After t clock rest h stop
-  low_lexes Inf clock rest h stop = Lexes-nothing rest
+  low_lexes Inf clock rest h stop = writing.nothing rest
   low_lexes Edge clock rest h stop = absurd h
 
   high_lexes : (b : Bound) (clock : Clock) (rest : List ℕ) → IsGiven b → begins_with_zone rest ≡ false → Lexes (high_text b clock) (high_tokens (written_bound b clock)) rest
   high_lexes (Closed t) clock rest h stop = word_moment words.End t clock rest h stop
   high_lexes (Open t) clock rest h stop = word_moment words.Before t clock rest h stop
-  high_lexes Inf clock rest h stop = Lexes-nothing rest
+  high_lexes Inf clock rest h stop = writing.nothing rest
   high_lexes Edge clock rest h stop = absurd h
 
   span_lexes : (low high : Bound) (c d : Clock) (rest : List ℕ) → IsGiven low → IsGiven high → Lexes (codes "span(" ++ low_text low c ++ comma_text low high ++ high_text high d ++ codes ")")
@@ -248,70 +337,67 @@ module _ (shaped : LiteralsAreShaped) (apart : LiteralsTellMomentsApart) where
       let stop : begins_with_zone ((C ++ (H ++ end)) ++ rest) ≡ false = rw (append_assoc C (H ++ end) rest, append_assoc H end rest) (no_zone_high (is_at_moment low) high d rest) in
       let us = low_tokens a ++ (comma_tokens (is_given a && is_given b) ++ (high_tokens b ++ tokens.Close ∷ [])) in
       let inner : Lexes (L ++ (C ++ (H ++ end))) us rest =
-      Lexes-append L (C ++ (H ++ end)) (low_tokens a) (comma_tokens (is_given a && is_given b) ++ (high_tokens b ++ tokens.Close ∷ [])) rest (low_lexes low c ((C ++ (H ++ end)) ++ rest) first stop)
-      (Lexes-append C (H ++ end) (comma_tokens (is_given a && is_given b)) (high_tokens b ++ tokens.Close ∷ []) rest between
-      (Lexes-append H end (high_tokens b) (tokens.Close ∷ []) rest (high_lexes high d (end ++ rest) second refl) (Lexes-close rest))) in
+      writing.parts L (C ++ (H ++ end)) (low_tokens a) (comma_tokens (is_given a && is_given b) ++ (high_tokens b ++ tokens.Close ∷ [])) rest (low_lexes low c ((C ++ (H ++ end)) ++ rest) first stop)
+      (writing.parts C (H ++ end) (comma_tokens (is_given a && is_given b)) (high_tokens b ++ tokens.Close ∷ []) rest between
+      (writing.parts H end (high_tokens b) (tokens.Close ∷ []) rest (high_lexes high d (end ++ rest) second refl) (Lexes-close writing rest))) in
       let whole : Lexes (codes "span(" ++ (L ++ (C ++ (H ++ end)))) (tokens.Word words.Span ∷ tokens.Open ∷ us) rest =
-      Lexes-append (codes "span(") (L ++ (C ++ (H ++ end))) (tokens.Word words.Span ∷ tokens.Open ∷ []) us rest (word_open words.Span ((L ++ (C ++ (H ++ end))) ++ rest)) inner in
+      writing.parts (codes "span(") (L ++ (C ++ (H ++ end))) (tokens.Word words.Span ∷ tokens.Open ∷ []) us rest (word_open words.Span ((L ++ (C ++ (H ++ end))) ++ rest)) inner in
       along (codes "span(" ++ L ++ C ++ H ++ end) (codes "span(" ++ (L ++ (C ++ (H ++ end)))) (tokens.Word words.Span ∷ tokens.Open ∷ bounds_tokens a b ++ tokens.Close ∷ []) rest e
       (spelled_as (codes "span(" ++ (L ++ (C ++ (H ++ end)))) (tokens.Word words.Span ∷ tokens.Open ∷ us) (tokens.Word words.Span ∷ tokens.Open ∷ bounds_tokens a b ++ tokens.Close ∷ []) rest
       (ap (λ (x : List Token). tokens.Word words.Span ∷ tokens.Open ∷ x) (bounds_parts a b (tokens.Close ∷ []))) whole)
 
   -- an operand in its brackets
-  operand_lexes : (t : Tree) (rest : List ℕ) → ((r : List ℕ) → Lexes (print t) (spelled (written t)) r) → Lexes (bracketed (is_join t) (print t)) (in_brackets (is_joined (written t)) (spelled (written t))) rest
+  operand_lexes : (t : Tree Rule) (rest : List ℕ) → ((r : List ℕ) → Lexes (print t) (spelled (written t)) r) → Lexes (bracketed (is_join t) (print t)) (in_brackets (is_joined (written t)) (spelled (written t))) rest
   operand_lexes t rest h = rw (joined_same t) (brackets_lex (is_join t) (print t) (spelled (written t)) rest h)
 
-  joined_lexes : (op : Operator) (sign : ℕ) (a b : Tree) (rest : List ℕ) → ((r : List ℕ) → Lexes (sign ∷ []) (tokens.Operator op ∷ []) (32 ∷ r))
+  joined_lexes : (op : Op) (a b : Tree Rule) (rest : List ℕ)
       → ((r : List ℕ) → Lexes (print a) (spelled (written a)) r) → ((r : List ℕ) → Lexes (print b) (spelled (written b)) r)
-      → Lexes (bracketed (is_join a) (print a) ++ (32 ∷ sign ∷ 32 ∷ []) ++ bracketed (is_join b) (print b))
+      → Lexes (bracketed (is_join a) (print a) ++ sign_text op ++ bracketed (is_join b) (print b))
       (in_brackets (is_joined (written a)) (spelled (written a)) ++ tokens.Operator op ∷ in_brackets (is_joined (written b)) (spelled (written b))) rest
-  joined_lexes op sign a b rest between first second =
+  joined_lexes op a b rest first second =
       let x = bracketed (is_join a) (print a) in
       let y = bracketed (is_join b) (print b) in
-      three x (32 ∷ sign ∷ 32 ∷ []) y (in_brackets (is_joined (written a)) (spelled (written a))) (tokens.Operator op ∷ []) (in_brackets (is_joined (written b)) (spelled (written b))) rest
-      (operand_lexes a (((32 ∷ sign ∷ 32 ∷ []) ++ y) ++ rest) first) (spaced sign (tokens.Operator op) (y ++ rest) (between (y ++ rest))) (operand_lexes b rest second)
+      three x (sign_text op) y (in_brackets (is_joined (written a)) (spelled (written a))) (tokens.Operator op ∷ []) (in_brackets (is_joined (written b)) (spelled (written b))) rest
+      (operand_lexes a ((sign_text op ++ y) ++ rest) first) (sign_lexes op (y ++ rest)) (operand_lexes b rest second)
 
-  print_lexes : (t : Tree) (rest : List ℕ) → IsWellFormed t → Lexes (print t) (spelled (written t)) rest
+  print_lexes : (t : Tree Rule) (rest : List ℕ) → IsWellFormed t → Lexes (print t) (spelled (written t)) rest
   unfolding print spelled
   print_lexes Empty rest h = empty_call rest
-  print_lexes (Listed []) rest h = absurd (omega (arith, h.0))
-  print_lexes (Listed (s ∷ ss)) rest h = list_lexes s ss rest (recursion_from_All (λ (x : Stamp). IsCalendarMoment x.moment.0) (s ∷ ss) h.1)
+  print_lexes (Ruled (Listed [])) rest h = absurd (omega (arith, h.0))
+  print_lexes (Ruled (Listed (s ∷ ss))) rest h = list_lexes s ss rest (recursion_from_All (λ (x : Stamp). IsCalendarMoment x.moment.0) (s ∷ ss) h.1)
   print_lexes (Spanned bounds low high) rest h = span_lexes bounds.0 bounds.1 low high rest h.0.low_given h.0.high_given
-  print_lexes (Union a b) rest h = joined_lexes operators.Union 124 a b rest (λ r. Lexes-union (32 ∷ r)) (λ r. print_lexes a r h.0) (λ r. print_lexes b r h.1)
-  print_lexes (Meet a b) rest h = joined_lexes operators.Meet 38 a b rest (λ r. Lexes-meet (32 ∷ r)) (λ r. print_lexes a r h.0) (λ r. print_lexes b r h.1)
-  print_lexes (Minus a b) rest h = joined_lexes operators.Minus 45 a b rest (λ r. Lexes-minus (32 ∷ r) refl) (λ r. print_lexes a r h.0) (λ r. print_lexes b r h.1)
+  print_lexes (Ruled (Field rule)) rest h = rule_lexes writing fit intervals rule rest h.0 h.1
+  print_lexes (Joined op a b) rest h = joined_lexes op a b rest (λ r. print_lexes a r h.0) (λ r. print_lexes b r h.1)
   print_lexes (Not a) rest h =
-      Lexes-append (codes "!") (bracketed (is_join a) (print a)) (tokens.Exclamation ∷ []) (in_brackets (is_joined (written a)) (spelled (written a))) rest
-      (Lexes-exclamation (bracketed (is_join a) (print a) ++ rest)) (operand_lexes a rest (λ r. print_lexes a r h))
+      writing.parts (codes "!") (bracketed (is_join a) (print a)) (tokens.Exclamation ∷ []) (in_brackets (is_joined (written a)) (spelled (written a))) rest
+      (Lexes-exclamation writing (bracketed (is_join a) (print a) ++ rest)) (operand_lexes a rest (λ r. print_lexes a r h))
 
-  second_lexes : (o : Option Tree) → IsWellFormedSecond o → Lexes (print_second o) (spelled_second (option_map written o)) []
-  second_lexes None h = Lexes-nothing []
+  second_lexes : (o : Option (Tree Rule)) → IsWellFormedSecond o → Lexes (print_second o) (spelled_second (option_map written o)) []
+  second_lexes None h = writing.nothing []
   second_lexes (Some t) h =
-      Lexes-append (codes " ; ") (print t) (tokens.Semicolon ∷ []) (spelled (written t)) [] (spaced 59 tokens.Semicolon (print t ++ []) (Lexes-semicolon (32 ∷ (print t ++ [])))) (print_lexes t [] h)
+      writing.parts (codes " ; ") (print t) (tokens.Semicolon ∷ []) (spelled (written t)) [] (spaced 59 tokens.Semicolon (print t ++ []) (Lexes-semicolon writing (32 ∷ (print t ++ [])))) (print_lexes t [] h)
 
   program_lexes : (p : Trees) → AreWellFormed p → Lexes (print_program p) (spelled_program (all_written p)) []
   program_lexes p h =
-      Lexes-append (print p.first) (print_second p.second) (spelled (written p.first)) (spelled_second (option_map written p.second)) []
+      writing.parts (print p.first) (print_second p.second) (spelled (written p.first)) (spelled_second (option_map written p.second)) []
       (print_lexes p.first (print_second p.second ++ []) h.0) (second_lexes p.second h.1)
 
-  trees_accepted : (p : Trees) → AreWellFormed p → sort_fault p ≡ None → AreAccepted (spelled_program (all_written p)) p
-  trees_accepted p h sorted =
-      let plain : ArePlain (spelled_program (all_written p)) = all_both IsPlain (spelled (written p.first)) (spelled_second (option_map written p.second)) (plain_spelled p.first h.0) (plain_second p.second h.1) in
-      record {
-        written = all_written p;
-        moments = record {
-          forms = record { built = no_call (spelled_program (all_written p)) plain; spelled = program_spelled (all_written p) (all_printable p h sorted) };
-          named = no_nameless (spelled_program (all_written p)) plain;
-          held = all_both HasPosition (spans_of (written p.first)) (second_spans (option_map written p.second)) (spans_held p.first h.0) (second_held p.second h.1);
-        };
-        same = sym (trees_back p h);
-        sorted = sorted;
-      }
+  trees_accepted : (p : Trees) → AreWellFormed p → sort_fault p ≡ None → (ts : Tokens) → kinds_of ts ≡ spelled_program (all_written p)
+      → AreRead ts (Ok p)
+  trees_accepted p h sort ts same =
+      let all : ArePlain (spelled_program (all_written p)) = all_both IsPlain (spelled (written p.first)) (spelled_second (option_map written p.second)) (plain_spelled p.first h.0) (plain_second p.second h.1) in
+      let plain : ArePlain (kinds_of ts) = subst ArePlain (sym same) all in
+      let built : calls_unbuilt (kinds_of ts) ≡ false = no_call (kinds_of ts) plain in
+      let named : first_nameless ts ≡ None = no_nameless ts plain in
+      goes_on ts (Ok p) (rw built refl)
+      (goes_on (record { tokens = ts; forms = all_written p }) (Ok p) (spelled_so (all_written p) (rw same (program_spelled (all_written p) (all_printable p h sort))))
+      (goes_on (record { tokens = ts; forms = all_written p }) (Ok p) (rw named refl)
+      (goes_on (all_written p) (Ok p) (held (all_both HasPosition (spans_of (written p.first)) (second_spans (option_map written p.second)) (spans_held p.first h.0) (second_held p.second h.1)))
+      (goes_on (all_written p) (Ok p) (rw (no_rule_fault p h) refl) (sorted p (trees_back p h) sort)))))
 
-  -- the printed form is read as the program
-  pub printed_is_read : (p : Program) → AreWellFormed (trees_of p) → sort_fault (trees_of p) ≡ None → length (print_program (trees_of p)) ≤ LONGEST → IsAnswer (print_program (trees_of p)) (Ok p)
-  printed_is_read p h sorted short = (
-    spelled_program (all_written (trees_of p)),
-    record { short = short; read = Lexes-all (print_program (trees_of p)) (spelled_program (all_written (trees_of p))) (program_lexes (trees_of p) h) },
-    trees_accepted (trees_of p) h sorted,
-  )
+  -- the printed form is read as the trees
+  pub printed_is_read : (p : Trees) → AreWellFormed p → sort_fault p ≡ None → length (print_program p) ≤ LONGEST → IsRead (print_program p) (Ok p)
+  printed_is_read p h sort short =
+      let text = print_program p in
+      let there = stand_in text (spelled_program (all_written p)) (writing.texts text (spelled_program (all_written p)) (program_lexes p h)) in
+      goes_on text (Ok p) (short_text text short) (goes_on there.tokens (Ok p) there.read (trees_accepted p h sort there.tokens there.same))

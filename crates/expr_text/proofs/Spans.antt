@@ -1,5 +1,5 @@
 -- The first span without a position, over two lists of spans one behind the other.
-use Rattle.std.proofs.Common.{◌≡◌, ℕ, suc, ◌+◌, List, [], ◌∷◌, ◌++◌, length, Option, Some, None, refl, sym, ◌∙◌, append_assoc, arith, length-append}
+use Rattle.std.proofs.Common.{◌≡◌, ℕ, List, [], ◌∷◌, ◌++◌, length, Option, Some, None, refl, sym, ◌∙◌, append_assoc, arith, length-append}
 use Rattle.std.specs.Option.{option_or}
 use Rattle.std.proofs.lemmas.List.{append-nil}
 use Rattle.std.specs.List.{AllByRecursion}
@@ -7,8 +7,9 @@ use Rattle.span_core.specs.declared.bounds.Bound.{Bound}
 use Rattle.expr_grammar.specs.declared.syntax.SyntaxTree.{SyntaxTree}
 use Rattle.expr_grammar.specs.declared.syntax.SyntaxTree.TheVariants as trees
 use Rattle.expr_grammar.specs.Syntax.{form_of, places_of}
-use Rattle.expr_grammar.proofs.Lists.{all_both}
-use Rattle.expr_text.specs.Faults.{FirstVacant, here, later, HasGivenBounds, HasPosition, TellsFirstVacant, spans_of}
+use Rattle.moment_core.proofs.Lists.{all_both}
+use Rattle.expr_text.specs.Faults.{FirstVacant, here, later, HasPosition, TellsFirstVacant, spans_of}
+use Rattle.expr_text.specs.Phases.{HasGivenBounds}
 
 vacant_front : (ss us : List (Bound × Bound)) (ps qs : List ℕ) (byte : ℕ) → FirstVacant ss ps byte → FirstVacant (ss ++ us) (ps ++ qs) byte
 vacant_front ss us ps qs byte (here s others place places vacant) = here s (others ++ us) place (places ++ qs) vacant
@@ -29,17 +30,10 @@ pub placed_spans : (t : SyntaxTree) → length (places_of t) ≡ length (spans_o
 placed_spans trees.Empty = refl
 placed_spans (trees.List v) = refl
 placed_spans (trees.Span place low high) = refl
+placed_spans (trees.Rule freq v) = refl
 placed_spans (trees.Joined' op x a y b) =
     omega (arith, length-append (places_of a) (places_of b), length-append (spans_of (form_of a)) (spans_of (form_of b)), placed_spans a, placed_spans b)
 placed_spans (trees.Inverse' x a) = placed_spans a
-
--- how many expressions stand in the tree
-abbrev pub size_of : SyntaxTree → ℕ
-size_of trees.Empty = 1
-size_of (trees.List v) = 1
-size_of (trees.Span place low high) = 1
-size_of (trees.Joined' op x a y b) = suc (size_of a + size_of b)
-size_of (trees.Inverse' x a) = suc (size_of a)
 
 -- of two parts the first decides, where it has such a span
 pub tells_both : (ss us : List (Bound × Bound)) (ps qs : List ℕ) (r other : Option ℕ) → length ps ≡ length ss → TellsFirstVacant ss ps r → TellsFirstVacant us qs other → TellsFirstVacant (ss ++ us) (ps ++ qs) (option_or r other)

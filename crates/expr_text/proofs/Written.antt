@@ -1,5 +1,5 @@
 -- Trees as they are written.
-use Rattle.std.proofs.Common.{◌≡◌, ℕ, ◌≤◌, Bool, true, false, cond, List, [], ◌∷◌, map, Option, Some, None, Result, Ok, Err, refl, sym, ap, ◌∙◌, arith}
+use Rattle.std.proofs.Common.{◌≡◌, ℕ, ◌≤◌, Bool, true, false, cond, List, [], ◌∷◌, map, Option, Some, None, Result, Ok, Err, refl, sym, ap, arith}
 use Rattle.std.specs.Prelude.{nat_lt, option_map}
 use Rattle.std.proofs.lemmas.Bool.Decides.{nat_tests}
 use Rattle.moment_core.specs.declared.line.Clock.{Clock}
@@ -9,14 +9,15 @@ use Rattle.moment_core.specs.declared.line.Stamp.{Stamp}
 use Rattle.span_core.specs.Bounds.{IsGiven}
 use Rattle.span_core.specs.declared.bounds.Bound.{Bound}
 use Rattle.span_core.specs.declared.bounds.Bound.TheVariants.{Closed, Open, Inf, Edge}
-use Rattle.expr_tokens.specs.declared.token.Operator.TheVariants as operators
 use Rattle.expr_grammar.specs.declared.syntax.SpanBound.{SpanBound}
 use Rattle.expr_grammar.specs.Form.{Form, Forms}
 use Rattle.expr_grammar.specs.Form as forms
-use Rattle.expr_grammar.specs.Nesting.{HasNoEmptyList, IsPrintable, IsPrintableForm, height, is_joined}
+use Rattle.expr_grammar.specs.Nesting.{HasTokens, IsPrintable, IsPrintableForm, height, is_joined}
 use Rattle.expr_tree.specs.Sorts.{depth_of, judge, nodes_of, sort_of_tree, sort_with}
-use Rattle.expr_tree.specs.Tree.{Tree, Empty, Listed, Spanned, Union, Meet, Minus, Not, Trees}
+use Rattle.expr_tree.specs.Tree.{Rule, Listed, Field, Tree, Empty, Spanned, Ruled, Joined, Not, Trees}
 use Rattle.expr_tree.specs.WellFormed.{HasClock, IsWellFormed}
+use Rattle.rule_core.specs.declared.field.FieldRule.{FieldRule}
+use Rattle.expr_text.proofs.RulesBack.{are_fields, rule_back, written_fields}
 use Rattle.expr_tree.specs.declared.sorting.Sort.{Sort}
 use Rattle.expr_tree.specs.declared.sorting.SortFault.{SortFault}
 use Rattle.expr_tree.specs.declared.sorting.SortFault.TheVariants as faults
@@ -24,7 +25,7 @@ use Rattle.expr_text.specs.Accepted.{AreWellFormed, IsWellFormedSecond}
 use Rattle.expr_text.specs.Faults.{fault_of, sort_fault}
 use Rattle.moment_core.specs.Clocks.{is_absolute}
 use Rattle.expr_text.specs.Printing.{is_join}
-use Rattle.expr_text.specs.Trees.{bound_of, clock_of, stamps_of, tree_from, trees_from}
+use Rattle.expr_text.specs.Trees.{both, bound_of, clock_of, is_named, listed, stamps_of, tree_from, trees_from}
 
 abbrev pub stamp_at : Moment → Clock → Stamp
 stamp_at t clock = record { moment = t; absolute = is_absolute clock }
@@ -38,21 +39,26 @@ written_bound Edge clock = None
 abbrev pub literals_of : List Stamp → List (Option Stamp)
 literals_of stamps = map (λ s. Some s) stamps
 
-abbrev pub written : Tree → Form
+abbrev pub written : Tree Rule → Form
 written Empty = forms.Empty
-written (Listed stamps) = forms.Listed (literals_of stamps)
+written (Ruled (Listed stamps)) = forms.Listed (literals_of stamps)
 written (Spanned bounds low high) = forms.Span (written_bound bounds.0 low) (written_bound bounds.1 high)
-written (Union a b) = forms.Joined operators.Union (written a) (written b)
-written (Meet a b) = forms.Joined operators.Meet (written a) (written b)
-written (Minus a b) = forms.Joined operators.Minus (written a) (written b)
+written (Ruled (Field rule)) = forms.Rule rule.freq (written_fields rule)
+written (Joined op a b) = forms.Joined op (written a) (written b)
 written (Not a) = forms.Inverse (written a)
 
 abbrev pub all_written : Trees → Forms
 all_written p = record { first = written p.first; second = option_map written p.second }
 
-stamps_back : (stamps : List Stamp) → stamps_of (literals_of stamps) ≡ stamps
+stamps_back : (stamps : List Stamp) → stamps_of (literals_of stamps) ≡ Some stamps
 stamps_back [] = refl
-stamps_back (s ∷ ss) = ap (λ (x : List Stamp). s ∷ x) (stamps_back ss)
+stamps_back (s ∷ ss) = ap (both (λ x xs. x ∷ xs) (Some s)) (stamps_back ss)
+
+named_back : (b : Bound) (clock : Clock) → is_named (written_bound b clock) ≡ true
+named_back (Closed t) clock = refl
+named_back (Open t) clock = refl
+named_back Inf clock = refl
+named_back Edge clock = refl
 
 pub bound_back : (b : Bound) (clock : Clock) → IsGiven b → bound_of (written_bound b clock) ≡ b
 bound_back (Closed t) clock h = refl
@@ -71,62 +77,58 @@ clock_back Inf clock h decided = sym (decided.0 refl)
 clock_back Edge clock h decided = absurd h
 
 span_back : (bounds : Bound × Bound) (low high : Clock) → IsGiven bounds.0 → IsGiven bounds.1 → HasClock bounds.0 low → HasClock bounds.1 high
-    → tree_from (forms.Span (written_bound bounds.0 low) (written_bound bounds.1 high)) ≡ Spanned bounds low high
+    → tree_from (forms.Span (written_bound bounds.0 low) (written_bound bounds.1 high)) ≡ Some (Spanned bounds low high)
 span_back bounds low high first second low_clock high_clock =
-    rw (bound_back bounds.0 low first, bound_back bounds.1 high second, clock_back bounds.0 low first low_clock, clock_back bounds.1 high second high_clock) refl
+    rw (named_back bounds.0 low, named_back bounds.1 high, bound_back bounds.0 low first, bound_back bounds.1 high second, clock_back bounds.0 low first low_clock, clock_back bounds.1 high second high_clock) refl
 
 -- what is written of a well-formed tree stands for it
-pub tree_back : (t : Tree) → IsWellFormed t → tree_from (written t) ≡ t
+pub tree_back : (t : Tree Rule) → IsWellFormed t → tree_from (written t) ≡ Some t
 tree_back Empty h = refl
-tree_back (Listed stamps) h = ap Listed (stamps_back stamps)
+tree_back (Ruled (Listed stamps)) h = ap (option_map listed) (stamps_back stamps)
 tree_back (Spanned bounds low high) h = span_back bounds low high h.0.low_given h.0.high_given h.1 h.2
-tree_back (Union a b) h = ap (λ (x : Tree). Union x (tree_from (written b))) (tree_back a h.0) ∙ ap (Union a) (tree_back b h.1)
-tree_back (Meet a b) h = ap (λ (x : Tree). Meet x (tree_from (written b))) (tree_back a h.0) ∙ ap (Meet a) (tree_back b h.1)
-tree_back (Minus a b) h = ap (λ (x : Tree). Minus x (tree_from (written b))) (tree_back a h.0) ∙ ap (Minus a) (tree_back b h.1)
-tree_back (Not a) h = ap Not (tree_back a h)
+tree_back (Ruled (Field rule)) h = ap (option_map (λ (r : FieldRule). Ruled (Field r))) (rule_back rule)
+tree_back (Joined op a b) h = rw (tree_back a h.0, tree_back b h.1) refl
+tree_back (Not a) h = rw (tree_back a h) refl
 
-second_back : (o : Option Tree) → IsWellFormedSecond o → option_map tree_from (option_map written o) ≡ o
-second_back None h = refl
-second_back (Some t) h = ap (λ (x : Tree). Some x) (tree_back t h)
+both_back : (t : Tree Rule) (o : Option (Tree Rule)) → IsWellFormed t → IsWellFormedSecond o → trees_from (record { first = written t; second = option_map written o }) ≡ Some (record { first = t; second = o })
+both_back t None h k = rw (tree_back t h) refl
+both_back t (Some u) h k = rw (tree_back t h, tree_back u k) refl
 
-pub trees_back : (p : Trees) → AreWellFormed p → trees_from (all_written p) ≡ p
-trees_back p h = rw (tree_back p.first h.0, second_back p.second h.1) refl
+pub trees_back : (p : Trees) → AreWellFormed p → trees_from (all_written p) ≡ Some p
+trees_back p h = both_back p.first p.second h.0 h.1
 
-pub joined_same : (t : Tree) → is_joined (written t) ≡ is_join t
+pub joined_same : (t : Tree Rule) → is_joined (written t) ≡ is_join t
 joined_same Empty = refl
-joined_same (Listed stamps) = refl
 joined_same (Spanned bounds low high) = refl
-joined_same (Union a b) = refl
-joined_same (Meet a b) = refl
-joined_same (Minus a b) = refl
+joined_same (Ruled (Listed stamps)) = refl
+joined_same (Ruled (Field rule)) = refl
+joined_same (Joined op a b) = refl
 joined_same (Not a) = refl
 
-height_same : (t : Tree) → height (written t) ≡ depth_of t
+height_same : (t : Tree Rule) → height (written t) ≡ depth_of t
 unfolding height
 height_same Empty = refl
-height_same (Listed stamps) = refl
 height_same (Spanned bounds low high) = refl
-height_same (Union a b) = rw (height_same a, height_same b) (omega arith)
-height_same (Meet a b) = rw (height_same a, height_same b) (omega arith)
-height_same (Minus a b) = rw (height_same a, height_same b) (omega arith)
+height_same (Ruled (Listed stamps)) = refl
+height_same (Ruled (Field rule)) = refl
+height_same (Joined op a b) = rw (height_same a, height_same b) (omega arith)
 height_same (Not a) = rw (height_same a) (omega arith)
 
-no_empty_list : (t : Tree) → IsWellFormed t → HasNoEmptyList (written t)
-unfolding HasNoEmptyList
-no_empty_list Empty h = tt
-no_empty_list (Listed []) h = absurd (omega (arith, h.0))
-no_empty_list (Listed (s ∷ ss)) h = tt
-no_empty_list (Spanned bounds low high) h = tt
-no_empty_list (Union a b) h = (no_empty_list a h.0, no_empty_list b h.1)
-no_empty_list (Meet a b) h = (no_empty_list a h.0, no_empty_list b h.1)
-no_empty_list (Minus a b) h = (no_empty_list a h.0, no_empty_list b h.1)
-no_empty_list (Not a) h = no_empty_list a h
+has_tokens : (t : Tree Rule) → IsWellFormed t → HasTokens (written t)
+unfolding HasTokens
+has_tokens Empty h = tt
+has_tokens (Ruled (Listed [])) h = absurd (omega (arith, h.0))
+has_tokens (Ruled (Listed (s ∷ ss))) h = tt
+has_tokens (Spanned bounds low high) h = tt
+has_tokens (Ruled (Field rule)) h = are_fields rule
+has_tokens (Joined op a b) h = (has_tokens a h.0, has_tokens b h.1)
+has_tokens (Not a) h = has_tokens a h
 
 not_below : (a b : ℕ) → nat_lt a b ≡ false → b ≤ a
 not_below a b e = grind (arith, nat_tests)
 
 -- a tree with a sort is at most 128 deep
-sorted_depth : (t : Tree) (s : Sort) → sort_of_tree t ≡ Ok s → depth_of t ≤ 128
+sorted_depth : (t : Tree Rule) (s : Sort) → sort_of_tree t ≡ Ok s → depth_of t ≤ 128
 sorted_depth t s e =
     let P : Bool → Type 0 = λ b. cond b (Err faults.Nodes) (cond (nat_lt 128 (depth_of t)) (Err faults.Depth) (sort_with t (judge t))) ≡ Ok s → depth_of t ≤ 128 in
     let Q : Bool → Type 0 = λ b. nat_lt 128 (depth_of t) ≡ b → cond b (Err faults.Depth) (sort_with t (judge t)) ≡ Ok s → depth_of t ≤ 128 in
@@ -134,8 +136,8 @@ sorted_depth t s e =
     let go : (b : Bool) → P b = λ b. elim b as P [ true ↦ λ k. absurd cc | false ↦ λ k. inner (nat_lt 128 (depth_of t)) refl k ] in
     go (nat_lt 1024 (nodes_of t)) e
 
-pub printable : (t : Tree) (s : Sort) → IsWellFormed t → sort_of_tree t ≡ Ok s → IsPrintableForm (written t)
-printable t s h e = (no_empty_list t h, rw (height_same t) (sorted_depth t s e))
+pub printable : (t : Tree Rule) (s : Sort) → IsWellFormed t → sort_of_tree t ≡ Ok s → IsPrintableForm (written t)
+printable t s h e = (has_tokens t h, rw (height_same t) (sorted_depth t s e))
 
 first_sorted : (r : Result Sort SortFault) (o : Option (Result Sort SortFault)) → fault_of r o ≡ None → (s : Sort) × (r ≡ Ok s)
 first_sorted (Ok s) o e = (s, refl)
@@ -146,7 +148,7 @@ second_sorted (Err fault) x e = absurd cc
 second_sorted (Ok s) (Err fault) e = absurd cc
 second_sorted (Ok s) (Ok other) e = (other, refl)
 
-both_printable : (t : Tree) (o : Option Tree) → AreWellFormed (record { first = t; second = o }) → sort_fault (record { first = t; second = o }) ≡ None → IsPrintable (all_written (record { first = t; second = o }))
+both_printable : (t : Tree Rule) (o : Option (Tree Rule)) → AreWellFormed (record { first = t; second = o }) → sort_fault (record { first = t; second = o }) ≡ None → IsPrintable (all_written (record { first = t; second = o }))
 both_printable t None h e = let s = first_sorted (sort_of_tree t) None e in (printable t s.0 h.0 s.1, tt)
 both_printable t (Some u) h e =
     let s = first_sorted (sort_of_tree t) (Some (sort_of_tree u)) e in

@@ -1,91 +1,88 @@
--- Which texts are accepted, and what reading one may answer.
-use Rattle.std.specs.Prelude.{◌≡◌, ◌≤◌, ◌<◌, ℕ, ◌+◌, true, false, List, length, Option, Some, None, Result, Ok, Err}
-use Rattle.std.specs.List.{AllByRecursion, list_any}
-use Rattle.expr_tokens.specs.declared.token.Token.{Token as Placed}
-use Rattle.expr_tokens.specs.Plain.{Token, plains}
-use Rattle.expr_tokens.specs.Reading.{reading_of, tokens_of, AreFound}
+-- Which texts are accepted, and what reading one answers.
+use Rattle.std.specs.Prelude.{◌≡◌, ℕ, ◌-◌, nat_lt, List, length, map, Option, Some, None, Result, Ok, Err, if◌then◌else◌}
+use Rattle.std.specs.List.{AllByRecursion}
+use Rattle.expr_tokens.specs.Plain.{Token}
+use Rattle.expr_tokens.specs.Reading.{Found, reading_of}
 use Rattle.expr_grammar.specs.Form.{Forms}
 use Rattle.expr_grammar.specs.Grammar.{Spells}
-use Rattle.expr_tree.specs.Tree.{Tree, Trees, trees_of}
+use Rattle.expr_tree.specs.Tree.{Rule, Tree, Trees}
 use Rattle.expr_tree.specs.WellFormed.{IsWellFormed}
+use Rattle.rule_core.specs.declared.part.RuleFault.{RuleFault}
 use Rattle.expr_tree.specs.declared.sorting.SortFault.{SortFault}
-use Rattle.expr_tree.specs.declared.tree.Program.{Program}
-use Rattle.expr_text.specs.declared.fault.TextFault.{TextFault}
-use Rattle.expr_text.specs.declared.fault.TextFault.TheVariants as faults
+use Rattle.expr_text.specs.Fault.{Fault}
+use Rattle.expr_text.specs.Fault as faults
+use Rattle.expr_text.specs.declared.fault.TheConstants.{LONGEST}
 use Rattle.expr_text.specs.Calls.{calls_unbuilt}
+use Rattle.phases.specs.Phases.{By, Then}
 use Rattle.expr_text.specs.Trees.{trees_from}
-use Rattle.expr_text.specs.Faults.{is_nameless, all_spans_of, HasPosition, IsMomentFault, sort_fault}
+use Rattle.expr_text.specs.Faults.{Tokens, kinds_of, all_spans_of, first_nameless, span_places, HasPosition, FirstVacant, first_rule_fault, sort_fault}
 
-abbrev pub LONGEST : ℕ
-LONGEST = 65_536
+-- the text, where it isn't too long
+abbrev pub unless_long : List ℕ → Result (List ℕ) Fault
+unless_long text = if nat_lt LONGEST (length text) then Err faults.Long else Ok text
 
--- the text isn't too long, and has these tokens
-pub record HasTokens (text : List ℕ) (ts : List Token) : Type 0 where
-  pub short : length text ≤ LONGEST
-  pub read : tokens_of text ≡ Ok ts
+-- the tokens, where one begins at each byte that isn't within one and no space
+abbrev pub with_places : ℕ → Found → Result Tokens Fault
+with_places size (Ok found) = Ok (map (λ (x : Token × ℕ). (x.0, size - x.1)) found)
+with_places size (Err left) = Err (faults.Token (size - left))
 
--- no call of the tokens is unbuilt, and they spell the program
-pub record HasForms (ts : List Token) (p : Forms) : Type 0 where
-  pub built : calls_unbuilt ts ≡ false
-  pub spelled : Spells p ts
+abbrev pub tokens_in : List ℕ → Result Tokens Fault
+tokens_in text = with_places (length text) (reading_of text)
 
--- each literal names a moment, and each span has a position
-pub record HasMoments (ts : List Token) (p : Forms) : Type 0 where
-  pub forms : HasForms ts p
-  pub named : list_any is_nameless ts ≡ false
-  pub held : AllByRecursion HasPosition (all_spans_of p)
+-- the tokens, where each call is built
+abbrev pub unless_unbuilt : Tokens → Result Tokens Fault
+unless_unbuilt ts = if calls_unbuilt (kinds_of ts) then Err faults.Unbuilt else Ok ts
 
--- the tokens are accepted as these trees
-pub record AreAccepted (ts : List Token) (trees : Trees) : Type 0 where
-  pub written : Forms
-  pub moments : HasMoments ts written
-  pub same : trees ≡ trees_from written
-  pub sorted : sort_fault trees ≡ None
+-- tokens, and what they spell
+pub record Spelling : Type 0 where
+  pub tokens : Tokens
+  pub forms : Forms
 
--- the tokens spell no program
-pub record SpellNothing (ts : List Token) : Type 0 where
-  pub built : calls_unbuilt ts ≡ false
-  pub nothing : (p : Forms) → Spells p ts → ⊥
+abbrev pub spelling : Tokens → Forms → Spelling
+spelling ts p = record { tokens = ts; forms = p }
 
--- a literal names no moment or a span has no position, and it is the first such
-pub record HaveMomentFault (ts : List Placed) (byte : ℕ) : Type 0 where
-  pub written : Forms
-  pub forms : HasForms (plains ts) written
-  pub fault : IsMomentFault ts written byte
+pub data IsSpelled (ts : Tokens) : Result Spelling Fault → Type 0 where
+  spelled : (p : Forms) → Spells p (kinds_of ts) → IsSpelled ts (Ok (record { tokens = ts; forms = p }))
+  unspelled : ((p : Forms) → Spells p (kinds_of ts) → ⊥) → IsSpelled ts (Err faults.Syntax)
 
--- the trees have no sort
-pub record HaveSortFault (ts : List Token) (fault : SortFault) : Type 0 where
-  pub written : Forms
-  pub moments : HasMoments ts written
-  pub unsorted : sort_fault (trees_from written) ≡ Some fault
+-- the spelling, where each literal names a moment
+abbrev pub or_nameless : Spelling → Option ℕ → Result Spelling Fault
+or_nameless s None = Ok s
+or_nameless s (Some byte) = Err (faults.Moment byte)
 
--- no token begins at the byte, and it is the first such
-abbrev pub IsTokenFault : List ℕ → ℕ → Type 0
-IsTokenFault text byte = (length text ≤ LONGEST) × (left : ℕ) × (reading_of text ≡ Err left) × (byte + left ≡ length text)
+abbrev pub unless_nameless : Spelling → Result Spelling Fault
+unless_nameless s = or_nameless s (first_nameless s.tokens)
 
--- The answers of a reader: each says that its own phase fails and none before it. Memory may run out anywhere.
-abbrev pub IsAnswer : List ℕ → Result Program TextFault → Type 0
-IsAnswer text (Ok program) = (ts : List Token) × HasTokens text ts × AreAccepted ts (trees_of program)
-IsAnswer text (Err faults.Long) = LONGEST < length text
-IsAnswer text (Err (faults.Token byte)) = IsTokenFault text byte
-IsAnswer text (Err faults.Unbuilt) = (ts : List Token) × HasTokens text ts × (calls_unbuilt ts ≡ true)
-IsAnswer text (Err faults.Syntax) = (ts : List Token) × HasTokens text ts × SpellNothing ts
-IsAnswer text (Err (faults.Moment byte)) = (ts : List Placed) × AreFound text ts × HasTokens text (plains ts) × HaveMomentFault ts byte
-IsAnswer text (Err (faults.Sort fault)) = (ts : List Token) × HasTokens text ts × HaveSortFault ts fault
-IsAnswer text (Err faults.Memory) = Unit {0}
+-- the expressions, where each span has a position
+pub data HasPositions (s : Spelling) : Result Forms Fault → Type 0 where
+  held : AllByRecursion HasPosition (all_spans_of s.forms) → HasPositions s (Ok s.forms)
+  vacant : (byte : ℕ) → FirstVacant (all_spans_of s.forms) (span_places s.tokens) byte → HasPositions s (Err (faults.Moment byte))
 
--- memory didn't run out
-abbrev pub IsTold : Result Program TextFault → Type 0
-IsTold (Ok program) = Unit {0}
-IsTold (Err fault) = fault ≡ faults.Memory → ⊥
+-- the expressions, where each rule is one
+abbrev pub or_rule_fault : Forms → Option RuleFault → Result Forms Fault
+or_rule_fault p None = Ok p
+or_rule_fault p (Some fault) = Err (faults.Rule fault)
 
--- the same trees, or the same fault
-abbrev pub AreSame : Result Program TextFault → Result Program TextFault → Type 0
-AreSame (Ok p) (Ok q) = trees_of p ≡ trees_of q
-AreSame (Err fault) (Err other) = fault ≡ other
-AreSame r s = ⊥
+abbrev pub unless_rule_fault : Forms → Result Forms Fault
+unless_rule_fault p = or_rule_fault p (first_rule_fault p)
 
-abbrev pub IsWellFormedSecond : Option Tree → Type 0
+-- the trees, where they have a sort
+pub data IsSorted (p : Forms) : Result Trees Fault → Type 0 where
+  sorted : (trees : Trees) → trees_from p ≡ Some trees → sort_fault trees ≡ None → IsSorted p (Ok trees)
+  unsorted : (trees : Trees) (fault : SortFault) → trees_from p ≡ Some trees → sort_fault trees ≡ Some fault
+      → IsSorted p (Err (faults.Sort fault))
+
+-- What a text is read as, or its fault: all phases in their order, each over the whole text.
+abbrev pub IsMeant : Spelling → Result Trees Fault → Type 0
+IsMeant = Then (By unless_nameless) (Then HasPositions (Then (By unless_rule_fault) IsSorted))
+
+abbrev pub AreRead : Tokens → Result Trees Fault → Type 0
+AreRead = Then (By unless_unbuilt) (Then IsSpelled IsMeant)
+
+abbrev pub IsRead : List ℕ → Result Trees Fault → Type 0
+IsRead = Then (By unless_long) (Then (By tokens_in) AreRead)
+
+abbrev pub IsWellFormedSecond : Option (Tree Rule) → Type 0
 IsWellFormedSecond None = Unit {0}
 IsWellFormedSecond (Some t) = IsWellFormed t
 

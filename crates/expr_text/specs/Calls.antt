@@ -1,19 +1,12 @@
 -- Calls of the grammar that aren't built.
 use Rattle.std.specs.Prelude.{Bool, true, false, ◌&&◌, ◌||◌, List, [], ◌∷◌}
 use Rattle.expr_tokens.specs.declared.token.Word.{Word}
-use Rattle.expr_tokens.specs.declared.token.Word.TheVariants.{Yearly, Monthly, Weekly, Daily, Hourly, Minutely, Secondly, Rrule, Event, During, Pairs, Starts, Ends, Shift, Zoned, ZonedFirst}
+use Rattle.expr_tokens.specs.declared.token.Word.TheVariants.{Rrule, Event, During, Pairs, Starts, Ends, Shift, Zoned, ZonedFirst}
 use Rattle.expr_tokens.specs.Plain.{Token}
 use Rattle.expr_tokens.specs.Plain as tokens
 
 -- the names of these calls
 abbrev pub is_unbuilt : Word → Bool
-is_unbuilt Yearly = true
-is_unbuilt Monthly = true
-is_unbuilt Weekly = true
-is_unbuilt Daily = true
-is_unbuilt Hourly = true
-is_unbuilt Minutely = true
-is_unbuilt Secondly = true
 is_unbuilt Rrule = true
 is_unbuilt Event = true
 is_unbuilt During = true

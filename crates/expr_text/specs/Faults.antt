@@ -1,39 +1,56 @@
 -- Moments that are none, spans without a position, and trees without a sort.
-use Rattle.std.specs.Prelude.{◌≡◌, ℕ, ℤ, Bool, true, false, List, [], ◌∷◌, ◌++◌, Option, Some, None, Result, Ok, Err, option_map}
+use Rattle.std.specs.Prelude.{◌≡◌, ℕ, ℤ, Bool, true, false, List, [], ◌∷◌, ◌++◌, map, Option, Some, None, Result, Ok, Err, option_map, if◌then◌else◌}
 use Rattle.std.specs.List.{AllByRecursion}
 use Rattle.moment_core.specs.Clocks.{one_clock}
 use Rattle.moment_core.specs.declared.line.Clock.{Clock}
-use Rattle.span_core.specs.Bounds.{lies_between, IsGiven, IsSpan}
+use Rattle.span_core.specs.Bounds.{lies_between}
 use Rattle.span_core.specs.declared.bounds.Bound.{Bound}
-use Rattle.expr_tokens.specs.declared.token.Token.{Token as Placed}
-use Rattle.expr_tokens.specs.declared.token.Token.TheVariants as placed
-use Rattle.expr_tokens.specs.Plain.{Token, plains}
+use Rattle.expr_tokens.specs.declared.token.Word.TheVariants as words
+use Rattle.expr_tokens.specs.Plain.{Token}
 use Rattle.expr_tokens.specs.Plain as tokens
 use Rattle.expr_grammar.specs.Form.{Form, Forms}
 use Rattle.expr_grammar.specs.Form as forms
-use Rattle.expr_grammar.specs.Syntax.{span_places}
 use Rattle.expr_tree.specs.Sorts.{sort_of_tree}
 use Rattle.expr_tree.specs.Tree.{Trees}
 use Rattle.expr_tree.specs.declared.sorting.Sort.{Sort}
 use Rattle.expr_tree.specs.declared.sorting.SortFault.{SortFault}
 use Rattle.expr_tree.specs.declared.sorting.SortFault.TheVariants as faults
+use Rattle.rule_core.specs.declared.part.RuleFault.{RuleFault}
+use Rattle.std.specs.Option.{option_or}
+use Rattle.expr_text.specs.Rules.{fault_where_rule, rule_from}
 use Rattle.expr_text.specs.Trees.{bound_of}
 
--- the place of the first literal that names no moment
-abbrev pub first_nameless : List Placed → Option ℕ
-first_nameless [] = None
-first_nameless (placed.Moment None place ∷ ts) = Some place
-first_nameless (t ∷ ts) = first_nameless ts
+-- tokens, each with the byte at which it begins
+abbrev pub Tokens : Type 0
+Tokens = List (Token × ℕ)
+
+abbrev pub kinds_of : Tokens → List Token
+kinds_of ts = map (λ (x : Token × ℕ). x.0) ts
 
 abbrev pub is_nameless : Token → Bool
 is_nameless (tokens.Moment None) = true
 is_nameless t = false
+
+-- the place of the first literal that names no moment
+abbrev pub first_nameless : Tokens → Option ℕ
+first_nameless [] = None
+first_nameless (x ∷ ts) = if is_nameless x.0 then Some x.1 else first_nameless ts
+
+abbrev pub is_span_name : Token → Bool
+is_span_name (tokens.Word words.Span) = true
+is_span_name t = false
+
+-- the places of the name `span`, from left to right
+abbrev pub span_places : Tokens → List ℕ
+span_places [] = []
+span_places (x ∷ ts) = if is_span_name x.0 then x.1 ∷ span_places ts else span_places ts
 
 -- the bounds of the spans, from left to right
 abbrev pub spans_of : Form → List (Bound × Bound)
 spans_of forms.Empty = []
 spans_of (forms.Listed literals) = []
 spans_of (forms.Span low high) = (bound_of low, bound_of high) ∷ []
+spans_of (forms.Rule freq fields) = []
 spans_of (forms.Joined op a b) = spans_of a ++ spans_of b
 spans_of (forms.Inverse a) = spans_of a
 
@@ -62,27 +79,21 @@ abbrev pub TellsFirstVacant : List (Bound × Bound) → List ℕ → Option ℕ 
 TellsFirstVacant spans places None = AllByRecursion HasPosition spans
 TellsFirstVacant spans places (Some byte) = FirstVacant spans places byte
 
--- the bounds are of the calendar range
-abbrev pub HasGivenBounds : Form → Type 0
-HasGivenBounds forms.Empty = Unit {0}
-HasGivenBounds (forms.Listed literals) = Unit {0}
-HasGivenBounds (forms.Span low high) = IsGiven (bound_of low) × IsGiven (bound_of high)
-HasGivenBounds (forms.Joined op a b) = HasGivenBounds a × HasGivenBounds b
-HasGivenBounds (forms.Inverse a) = HasGivenBounds a
+-- the fault of the first rule that has one
+abbrev pub rule_fault : Form → Option RuleFault
+rule_fault forms.Empty = None
+rule_fault (forms.Listed literals) = None
+rule_fault (forms.Span low high) = None
+rule_fault (forms.Rule freq fields) = fault_where_rule (rule_from freq fields)
+rule_fault (forms.Joined op a b) = option_or (rule_fault a) (rule_fault b)
+rule_fault (forms.Inverse a) = rule_fault a
 
--- each span has a position, between bounds of the calendar range
-abbrev pub HasSpans : Form → Type 0
-HasSpans forms.Empty = Unit {0}
-HasSpans (forms.Listed literals) = Unit {0}
-HasSpans (forms.Span low high) = IsSpan (bound_of low) (bound_of high)
-HasSpans (forms.Joined op a b) = HasSpans a × HasSpans b
-HasSpans (forms.Inverse a) = HasSpans a
+abbrev pub second_rule_fault : Option Form → Option RuleFault
+second_rule_fault None = None
+second_rule_fault (Some t) = rule_fault t
 
--- The first literal that names no moment, and if there is none, the first span without a position, by its name.
-pub data IsMomentFault : List Placed → Forms → ℕ → Type 0 where
-  nameless : (ts : List Placed) (p : Forms) (byte : ℕ) → first_nameless ts ≡ Some byte → IsMomentFault ts p byte
-  vacant : (ts : List Placed) (p : Forms) (byte : ℕ) → first_nameless ts ≡ None
-      → FirstVacant (all_spans_of p) (span_places ts) byte → IsMomentFault ts p byte
+abbrev pub first_rule_fault : Forms → Option RuleFault
+first_rule_fault p = option_or (rule_fault p.first) (second_rule_fault p.second)
 
 -- two clocks that are decided and differ
 abbrev pub clocks_fault : Option Clock → Option SortFault

@@ -1,69 +1,90 @@
 -- What the reader's functions answer, phase by phase.
-use Rattle.std.specs.Prelude.{◌≡◌, true, List, Option, Some, None, Result, Ok, Err}
+use Rattle.std.specs.Prelude.{◌≡◌, ℕ, List, [], ◌∷◌, Option, Some, None, Result, Ok, Err, IfSome, option_map}
+use Rattle.std.specs.List.{AllZip}
 use Rattle.moment_core.specs.Line.{IsCalendarMoment}
-use Rattle.moment_core.specs.declared.line.Clock.{Clock}
+use Rattle.span_core.specs.Bounds.{IsGiven, IsSpan}
 use Rattle.expr_tokens.specs.declared.token.Token.{Token as Placed}
-use Rattle.expr_tokens.specs.Plain.{Token, plains}
+use Rattle.expr_tokens.specs.declared.token.Token.TheVariants as placed
+use Rattle.expr_tokens.specs.Plain.{Token, plain}
 use Rattle.expr_tokens.specs.Plain as tokens
 use Rattle.expr_grammar.specs.Form.{Form, Forms}
+use Rattle.expr_grammar.specs.Form as forms
 use Rattle.expr_tree.specs.Sorts.{sort_of_tree}
-use Rattle.expr_tree.specs.Tree.{tree_of, trees_of}
-use Rattle.expr_tree.specs.declared.sorting.Sort.{Sort}
-use Rattle.expr_tree.specs.declared.tree.Expr.{Expr}
-use Rattle.expr_tree.specs.declared.tree.Program.{Program}
+use Rattle.expr_tree.specs.Tree.{Rule, Tree, Trees}
 use Rattle.expr_text.specs.declared.fault.TextFault.{TextFault}
-use Rattle.expr_text.specs.declared.fault.TextFault.TheVariants as faults
-use Rattle.expr_text.specs.Accepted.{AreAccepted, SpellNothing, HaveMomentFault, HaveSortFault}
-use Rattle.expr_text.specs.Calls.{calls_unbuilt}
-use Rattle.expr_text.specs.Trees.{tree_from, trees_from}
-use Rattle.expr_text.specs.Faults.{HasSpans, HasGivenBounds, sort_fault}
+use Rattle.expr_text.specs.Fault.{Fault, fault_in}
+use Rattle.expr_text.specs.Fault as faults
+use Rattle.expr_text.specs.declared.sorted.SortedSet.{SortedSet}
+use Rattle.expr_text.specs.Sorted.{HasSort, tree_of_set}
+use Rattle.expr_text.specs.Trees.{bound_of, tree_from}
+use Rattle.expr_text.specs.Faults.{Tokens}
+
+-- what a reader returned: none where memory ran out
+abbrev pub told : {X : Type 0} → (X → Trees) → Result X TextFault → Option (Result Trees Fault)
+told view (Ok x) = Some (Ok (view x))
+told view (Err fault) = option_map (λ f. Err f) (fault_in fault)
+
+-- it is such an answer, unless memory ran out
+abbrev pub Tells : {X : Type 0} → (X → Trees) → (Result Trees Fault → Type 0) → Result X TextFault → Type 0
+Tells view Is r = IfSome (told view r) Is
+
+-- where the token carries a place, it is this one
+abbrev pub StandsAt : ℕ → Placed → Type 0
+StandsAt byte (placed.Word w place) = place ≡ byte
+StandsAt byte (placed.Moment stamp place) = place ≡ byte
+StandsAt byte t = Unit {0}
+
+-- the token is this one
+pub record IsToken (t : Placed) (x : Token × ℕ) : Type 0 where
+  pub same : plain t ≡ x.0
+  pub place : StandsAt x.1 t
+
+-- the tokens are these
+abbrev pub AreTokens : List Placed → Tokens → Type 0
+AreTokens ts us = AllZip IsToken ts us
+
+-- the place of the first literal that names no moment
+abbrev pub first_nameless : List Placed → Option ℕ
+first_nameless [] = None
+first_nameless (placed.Moment None place ∷ ts) = Some place
+first_nameless (t ∷ ts) = first_nameless ts
 
 -- a moment that the token names is of the calendar range
 abbrev pub IsInRange : Token → Type 0
 IsInRange (tokens.Moment (Some s)) = IsCalendarMoment s.moment.0
 IsInRange t = Unit {0}
 
-abbrev pub SecondHasSpans : Option Form → Type 0
-SecondHasSpans None = Unit {0}
-SecondHasSpans (Some t) = HasSpans t
+-- the bounds are of the calendar range
+abbrev pub HasGivenBounds : Form → Type 0
+HasGivenBounds forms.Empty = Unit {0}
+HasGivenBounds (forms.Listed literals) = Unit {0}
+HasGivenBounds (forms.Span low high) = IsGiven (bound_of low) × IsGiven (bound_of high)
+HasGivenBounds (forms.Rule freq fields) = Unit {0}
+HasGivenBounds (forms.Joined op a b) = HasGivenBounds a × HasGivenBounds b
+HasGivenBounds (forms.Inverse a) = HasGivenBounds a
 
-abbrev pub AllHaveSpans : Forms → Type 0
-AllHaveSpans p = HasSpans p.first × SecondHasSpans p.second
+-- each span has a position, between bounds of the calendar range
+abbrev pub HasSpans : Form → Type 0
+HasSpans forms.Empty = Unit {0}
+HasSpans (forms.Listed literals) = Unit {0}
+HasSpans (forms.Span low high) = IsSpan (bound_of low) (bound_of high)
+HasSpans (forms.Rule freq fields) = Unit {0}
+HasSpans (forms.Joined op a b) = HasSpans a × HasSpans b
+HasSpans (forms.Inverse a) = HasSpans a
 
-abbrev pub SecondHasGivenBounds : Option Form → Type 0
-SecondHasGivenBounds None = Unit {0}
-SecondHasGivenBounds (Some t) = HasGivenBounds t
+abbrev pub IsSecond : (Form → Type 0) → Option Form → Type 0
+IsSecond Is None = Unit {0}
+IsSecond Is (Some t) = Is t
 
-abbrev pub AllHaveGivenBounds : Forms → Type 0
-AllHaveGivenBounds p = HasGivenBounds p.first × SecondHasGivenBounds p.second
+abbrev pub AreBoth : (Form → Type 0) → Forms → Type 0
+AreBoth Is p = Is p.first × IsSecond Is p.second
 
--- a set and its clock, or why the expression has no sort
-pub record IsSorted (t : Form) (x : Expr × Clock) : Type 0 where
-  pub same : tree_of x.0 ≡ tree_from t
-  pub sort : Sort
-  pub judged : sort_of_tree (tree_from t) ≡ Ok sort
-  pub clock : x.1 ≡ sort.clock
+-- the expression has no sort, for this reason
+abbrev pub HasSortFault : Form → Fault → Type 0
+HasSortFault t (faults.Sort fault) = (tree : Tree Rule) × (tree_from t ≡ Some tree) × (sort_of_tree tree ≡ Err fault)
+HasSortFault t fault = ⊥
 
-abbrev pub GivesSorted : Form → Result (Expr × Clock) TextFault → Type 0
-GivesSorted t (Ok x) = IsSorted t x
-GivesSorted t (Err (faults.Sort fault)) = sort_of_tree (tree_from t) ≡ Err fault
-GivesSorted t (Err faults.Memory) = Unit {0}
-GivesSorted t (Err fault) = ⊥
-
--- what the last phase answers of a program whose moments have no fault
-abbrev pub GivesProgram : Forms → Result Program TextFault → Type 0
-GivesProgram p (Ok program) = (trees_of program ≡ trees_from p) × (sort_fault (trees_from p) ≡ None)
-GivesProgram p (Err (faults.Sort fault)) = sort_fault (trees_from p) ≡ Some fault
-GivesProgram p (Err faults.Memory) = Unit {0}
-GivesProgram p (Err fault) = ⊥
-
--- what all phases behind the tokens answer
-abbrev pub IsOutcome : List Placed → Result Program TextFault → Type 0
-IsOutcome ts (Ok program) = AreAccepted (plains ts) (trees_of program)
-IsOutcome ts (Err faults.Long) = ⊥
-IsOutcome ts (Err (faults.Token byte)) = ⊥
-IsOutcome ts (Err faults.Unbuilt) = calls_unbuilt (plains ts) ≡ true
-IsOutcome ts (Err faults.Syntax) = SpellNothing (plains ts)
-IsOutcome ts (Err (faults.Moment byte)) = HaveMomentFault ts byte
-IsOutcome ts (Err (faults.Sort fault)) = HaveSortFault (plains ts) fault
-IsOutcome ts (Err faults.Memory) = Unit {0}
+-- a set and its sort, or why the expression has none
+abbrev pub GivesSorted : Form → Result SortedSet TextFault → Type 0
+GivesSorted t (Ok s) = (tree_from t ≡ Some (tree_of_set s)) × HasSort s
+GivesSorted t (Err fault) = IfSome (fault_in fault) (HasSortFault t)

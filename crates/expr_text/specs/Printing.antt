@@ -8,13 +8,14 @@ use Rattle.moment_core.specs.declared.line.Stamp.{Stamp}
 use Rattle.moment_text.specs.Literal.{literal_of}
 use Rattle.span_core.specs.declared.bounds.Bound.{Bound}
 use Rattle.span_core.specs.declared.bounds.Bound.TheVariants.{Closed, Open, Inf, Edge}
-use Rattle.expr_tree.specs.Tree.{Tree, Empty, Listed, Spanned, Union, Meet, Minus, Not, Trees}
+use Rattle.moment_core.specs.declared.joining.Op.{Op}
+use Rattle.moment_core.specs.declared.joining.Op.TheVariants.{Union, Meet, Minus}
+use Rattle.expr_text.specs.Fields.{field_rule_text}
+use Rattle.expr_tree.specs.Tree.{Rule, Listed, Field, Tree, Empty, Spanned, Ruled, Joined, Not, Trees}
 
 -- operands that are themselves joined by an operator stand in brackets
-abbrev pub is_join : Tree → Bool
-is_join (Union a b) = true
-is_join (Meet a b) = true
-is_join (Minus a b) = true
+abbrev pub is_join : Tree Rule → Bool
+is_join (Joined op a b) = true
 is_join t = false
 
 abbrev pub bracketed : Bool → List ℕ → List ℕ
@@ -56,17 +57,28 @@ is_at_moment Edge = false
 abbrev pub comma_text : Bound → Bound → List ℕ
 comma_text low high = if is_at_moment low && is_at_moment high then codes ", " else []
 
-unfoldable pub print : Tree → List ℕ
+-- the sign between two operands
+abbrev pub sign_text : Op → List ℕ
+sign_text Union = codes " | "
+sign_text Meet = codes " & "
+sign_text Minus = codes " - "
+
+abbrev pub rule_text : Rule → List ℕ
+rule_text (Listed stamps) = codes "{" ++ stamps_text stamps ++ codes "}"
+rule_text (Field rule) = field_rule_text rule
+
+unfoldable pub print : Tree Rule → List ℕ
 print Empty = codes "empty()"
-print (Listed stamps) = codes "{" ++ stamps_text stamps ++ codes "}"
 print (Spanned bounds low high) =
     codes "span(" ++ low_text bounds.0 low ++ comma_text bounds.0 bounds.1 ++ high_text bounds.1 high ++ codes ")"
-print (Union a b) = bracketed (is_join a) (print a) ++ codes " | " ++ bracketed (is_join b) (print b)
-print (Meet a b) = bracketed (is_join a) (print a) ++ codes " & " ++ bracketed (is_join b) (print b)
-print (Minus a b) = bracketed (is_join a) (print a) ++ codes " - " ++ bracketed (is_join b) (print b)
+print (Ruled rule) = rule_text rule
+print (Joined op a b) = bracketed (is_join a) (print a) ++ sign_text op ++ bracketed (is_join b) (print b)
 print (Not a) = codes "!" ++ bracketed (is_join a) (print a)
 
-abbrev pub print_second : Option Tree → List ℕ
+abbrev pub operand_text : Tree Rule → List ℕ
+operand_text t = bracketed (is_join t) (print t)
+
+abbrev pub print_second : Option (Tree Rule) → List ℕ
 print_second None = []
 print_second (Some t) = codes " ; " ++ print t
 

@@ -1,23 +1,29 @@
 -- The tree that an expression stands for.
-use Rattle.std.specs.Prelude.{Bool, true, false, List, Option, Some, None, option_map}
-use Rattle.std.specs.List.{filter_map}
+use Rattle.std.specs.Prelude.{ℕ, ◌+◌, Bool, true, false, ◌&&◌, List, [], ◌∷◌, Option, Some, None, option_map, if◌then◌else◌}
 use Rattle.moment_core.specs.Clocks.{clock_of_stamp}
 use Rattle.moment_core.specs.declared.line.Clock.{Clock}
 use Rattle.moment_core.specs.declared.line.Clock.TheVariants.{Any}
 use Rattle.moment_core.specs.declared.line.Stamp.{Stamp}
 use Rattle.span_core.specs.declared.bounds.Bound.{Bound}
 use Rattle.span_core.specs.declared.bounds.Bound.TheVariants.{Closed, Open, Inf}
-use Rattle.expr_tokens.specs.declared.token.Operator.{Operator}
-use Rattle.expr_tokens.specs.declared.token.Operator.TheVariants as operators
 use Rattle.expr_grammar.specs.declared.syntax.SpanBound.{SpanBound}
 use Rattle.expr_grammar.specs.Form.{Form, Forms}
 use Rattle.expr_grammar.specs.Form as forms
-use Rattle.expr_tree.specs.Tree.{Tree, Empty, Listed, Spanned, Union, Meet, Minus, Not, Trees}
+use Rattle.expr_text.specs.Rules.{rule_from}
+use Rattle.expr_tree.specs.Tree.{Rule, Listed, Field, Tree, Empty, Spanned, Ruled, Joined, Not, Trees}
 
--- the moments that literals name
-abbrev pub stamps_of : List (Option Stamp) → List Stamp
-stamps_of literals = filter_map (λ (m : Option Stamp). m) literals
+-- two values, where there are both
+abbrev pub both : {A B C : Type 0} → (A → B → C) → Option A → Option B → Option C
+both f (Some a) (Some b) = Some (f a b)
+both f (Some a) None = None
+both f None b = None
 
+-- the moments that literals name, where each names one
+abbrev pub stamps_of : List (Option Stamp) → Option (List Stamp)
+stamps_of [] = Some []
+stamps_of (m ∷ ms) = both (λ s ss. s ∷ ss) m (stamps_of ms)
+
+-- The bound that a literal gives. One that names no moment is refused before its bound is asked.
 abbrev pub bound_at : Bool → Option Stamp → Bound
 bound_at closed None = Inf
 bound_at true (Some s) = Closed s.moment
@@ -36,17 +42,46 @@ abbrev pub clock_of : Option SpanBound → Clock
 clock_of None = Any
 clock_of (Some b) = clock_at b.stamp
 
-abbrev pub join_of : Operator → Tree → Tree → Tree
-join_of operators.Union a b = Union a b
-join_of operators.Meet a b = Meet a b
-join_of operators.Minus a b = Minus a b
+abbrev pub is_some : Option Stamp → Bool
+is_some None = false
+is_some (Some s) = true
 
-abbrev pub tree_from : Form → Tree
-tree_from forms.Empty = Empty
-tree_from (forms.Listed literals) = Listed (stamps_of literals)
-tree_from (forms.Span low high) = Spanned (bound_of low, bound_of high) (clock_of low) (clock_of high)
-tree_from (forms.Joined op a b) = join_of op (tree_from a) (tree_from b)
-tree_from (forms.Inverse a) = Not (tree_from a)
+-- a bound that is written names a moment
+abbrev pub is_named : Option SpanBound → Bool
+is_named None = true
+is_named (Some b) = is_some b.stamp
 
-abbrev pub trees_from : Forms → Trees
-trees_from p = record { first = tree_from p.first; second = option_map tree_from p.second }
+abbrev pub listed : List Stamp → Tree Rule
+listed stamps = Ruled (Listed stamps)
+
+-- the tree, where each literal names a moment
+abbrev pub tree_from : Form → Option (Tree Rule)
+tree_from forms.Empty = Some Empty
+tree_from (forms.Listed literals) = option_map listed (stamps_of literals)
+tree_from (forms.Span low high) =
+    if is_named low && is_named high
+    then Some (Spanned (bound_of low, bound_of high) (clock_of low) (clock_of high))
+    else None
+tree_from (forms.Rule freq fields) = option_map (λ rule. Ruled (Field rule)) (rule_from freq fields)
+tree_from (forms.Joined op a b) = both (Joined op) (tree_from a) (tree_from b)
+tree_from (forms.Inverse a) = option_map Not (tree_from a)
+
+-- one tree, or two
+abbrev pub with_second : Tree Rule → Option (Tree Rule) → Trees
+with_second t second = record { first = t; second = second }
+
+abbrev pub trees_with : Option (Tree Rule) → Option Form → Option Trees
+trees_with first None = option_map (λ t. with_second t None) first
+trees_with first (Some second) = both (λ t u. with_second t (Some u)) first (tree_from second)
+
+abbrev pub trees_from : Forms → Option Trees
+trees_from p = trees_with (tree_from p.first) p.second
+
+-- how many nodes the tree of an expression has
+abbrev pub size_of : Form → ℕ
+size_of forms.Empty = 1
+size_of (forms.Listed literals) = 1
+size_of (forms.Span low high) = 1
+size_of (forms.Rule freq fields) = 1
+size_of (forms.Joined op a b) = 1 + size_of a + size_of b
+size_of (forms.Inverse a) = 1 + size_of a

@@ -2,8 +2,12 @@ ghost use Rattle.std.specs.Prelude.{◌≡◌};
 ghost use Rattle.expr_text.specs.declared.fault.TextFault.TheVariants.{Memory};
 
 use expr_tree::SortFault;
+use rule_core::RuleFault;
 use std::alloc::{AllocError, AllocFailed};
 use thiserror::Error;
+
+/// The most bytes that a text may have.
+pub const LONGEST: usize = 65_536;
 
 /// Why a text isn't read as a program. The first cause of this order decides; within a cause, the first place in the text.
 #[derive(Clone, Copy, Debug, PartialEq, Eq, Error)]
@@ -20,10 +24,13 @@ pub enum TextFault {
     /// The tokens spell no program of the grammar.
     #[error("no program of the grammar")]
     Syntax,
-    /// The literal at the byte names no moment of the calendar range; or, if each literal names one, no position lies
-    /// between the bounds of the span whose name begins at the byte.
+    /// The literal at the byte names no moment of the calendar range; or, if each literal names one,
+    /// no position lies between the bounds of the span whose name begins at the byte.
     #[error("no moment, or no position of a span, at byte {byte}")]
     Moment { byte: usize },
+    /// The first rule of the text that is none, by its fault.
+    #[error("no rule")]
+    Rule(RuleFault),
     /// The first expression has no sort, or the second, or their clocks differ.
     #[error("no sort")]
     Sort(SortFault),

@@ -3,15 +3,19 @@
 
 mod building;
 mod fault;
+mod fields;
+mod finding;
 mod laws;
-mod phases;
 mod printing;
 mod reading;
+mod rules;
+mod sorted;
 
-pub use fault::TextFault;
-pub use laws::{one_answer, printed_is_read};
+pub use fault::{LONGEST, TextFault};
+pub use laws::reading_laws;
 pub use printing::{write_expr, write_program};
-pub use reading::read_program;
+pub use reading::{read_program, read_sorted};
+pub use sorted::{SortedProgram, SortedSet};
 
 #[cfg(test)]
 mod tests;

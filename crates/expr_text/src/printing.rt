@@ -5,9 +5,10 @@ ghost use Rattle.expr_tree.specs.Tree.{tree_of, trees_of};
 ghost use Rattle.expr_tree.specs.WellFormed.{IsWellFormed};
 ghost use Rattle.span_core.specs.Bounds.{IsGiven};
 ghost use Rattle.expr_text.specs.Accepted.{AreWellFormed};
-ghost use Rattle.expr_text.specs.Printing.{is_join, bracketed, stamp_text, next_stamp, stamps_text, low_text, high_text, moment_text, is_at_moment, comma_text, print, print_program};
+ghost use Rattle.expr_text.specs.Printing.{is_join, operand_text, stamp_text, next_stamp, stamps_text, low_text, high_text, moment_text, is_at_moment, comma_text, print, print_program};
 
-use expr_tree::{Expr, Program, Stamps};
+use crate::fields::put_rule;
+use expr_tree::{Expr, Program};
 use moment_core::{Clock, Moment, Stamp};
 use moment_text::write_literal;
 use span_core::{Bound, Span};
@@ -20,7 +21,7 @@ fn is_join(e: &Expr) -> bool
     matches!(e, Expr::Union(_, _) | Expr::Meet(_, _) | Expr::Minus(_, _))
 }
 
-fn put_stamp(out: &mut Vec<u8>, stamp: Stamp) -> Result<(), AllocError>
+pub(crate) fn put_stamp(out: &mut Vec<u8>, stamp: Stamp) -> Result<(), AllocError>
     requires { IsCalendarMoment stamp.moment.0 }
     ensures { OnOk result (out.new.items ≡ out.old.items ++ stamp_text stamp) }
 {
@@ -131,6 +132,7 @@ fn put(out: &mut Vec<u8>, e: &Expr) -> Result<(), AllocError>
             put_high(out, span.high(), *high)?;
             out.extend_from_slice(b")")
         }
+        Expr::Field(rule) => put_rule(out, rule),
         Expr::Union(a, b) => {
             put_operand(out, a)?;
             out.extend_from_slice(b" | ")?;
@@ -156,7 +158,7 @@ fn put(out: &mut Vec<u8>, e: &Expr) -> Result<(), AllocError>
 #[cycle(putting)]
 fn put_operand(out: &mut Vec<u8>, e: &Expr) -> Result<(), AllocError>
     requires { IsWellFormed (tree_of e.now) }
-    ensures { OnOk result (out.new.items ≡ out.old.items ++ bracketed (is_join (tree_of e.now)) (print (tree_of e.now))) }
+    ensures { OnOk result (out.new.items ≡ out.old.items ++ operand_text (tree_of e.now)) }
 {
     if is_join(e) {
         out.extend_from_slice(b"(")?;

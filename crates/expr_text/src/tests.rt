@@ -1,5 +1,6 @@
 use crate::*;
 use expr_tree::{Expr, SortFault};
+use rule_core::{Part, RuleFault};
 use std::test::Fail;
 use stored_pair::Book;
 
@@ -57,7 +58,7 @@ fn texts_are_refused_by_the_first_fault(rt: HostRuntime) {
         ("", TextFault::Syntax),
         ("empty() @", TextFault::Token { byte: 8 }),
         ("daily( ) @", TextFault::Token { byte: 9 }),
-        ("daily( )", TextFault::Unbuilt),
+        ("rrule( )", TextFault::Unbuilt),
         ("{2024-02-30T00:00:00} | zoned_first(", TextFault::Unbuilt),
         ("daily", TextFault::Syntax),
         ("months( )", TextFault::Syntax),
@@ -78,6 +79,81 @@ fn texts_are_refused_by_the_first_fault(rt: HostRuntime) {
         (
             "{2024-01-01T00:00:00} ; {2024-01-01T00:00:00Z}",
             TextFault::Sort(SortFault::Clock),
+        ),
+    ] {
+        assert_eq!(rt; shown(&rt, text).err(), Some(fault), "{text}");
+    }
+}
+
+#[test]
+fn rules_are_printed_with_their_fields_in_order(rt: HostRuntime) -> Result<(), Fail> {
+    for (text, printed) in [
+        ("daily( )", "daily()"),
+        (
+            "weekly(days=-1 interval=2 start=2024-01-01T00:00:00)",
+            "weekly(days=-1 interval=2 start=2024-01-01T00:00:00)",
+        ),
+        (
+            "yearly(week_start=7 seconds=-1 minutes=0, 30 hours = 6 days=1 weeks=-1)",
+            "yearly(weeks=-1 days=1 hours=6 minutes=0,30 seconds=-1 week_start=7)",
+        ),
+        ("monthly(interval=1 days=2,1,2)", "monthly(days=2,1,2)"),
+        (
+            "yearly(months=12)-!hourly(minutes=00) ; secondly()",
+            "yearly(months=12) - !hourly(minutes=0) ; secondly()",
+        ),
+    ] {
+        let found = shown(&rt, text);
+        assert!(rt;
+            found.is_ok_and(|form| form.as_slice() == printed.as_bytes()),
+            "{text}"
+        );
+    }
+    Ok(())
+}
+
+#[test]
+fn rules_are_refused_by_the_first_fault(rt: HostRuntime) {
+    for (text, fault) in [
+        ("monthly(days=1 hours=2 days=2)", TextFault::Syntax),
+        ("daily(interval=1,2)", TextFault::Syntax),
+        ("daily(hours=1, minutes=2)", TextFault::Syntax),
+        (
+            "yearly(weeks=1 months=1)",
+            TextFault::Rule(RuleFault::BadMix(Part::Months, Part::Weeks)),
+        ),
+        (
+            "daily(interval=0 days=1)",
+            TextFault::Rule(RuleFault::BadMix(Part::Daily, Part::Days)),
+        ),
+        (
+            "monthly(days=32)",
+            TextFault::Rule(RuleFault::BadValue(Part::Days)),
+        ),
+        (
+            "monthly(hours=24 days=0)",
+            TextFault::Rule(RuleFault::BadValue(Part::Days)),
+        ),
+        ("daily(interval=0)", TextFault::Rule(RuleFault::BadInterval)),
+        (
+            "daily() | !daily(interval=0) | monthly(days=32)",
+            TextFault::Rule(RuleFault::BadInterval),
+        ),
+        (
+            "daily() ; daily(interval=0)",
+            TextFault::Rule(RuleFault::BadInterval),
+        ),
+        (
+            "daily(interval=0 start=2024-02-30T00:00:00)",
+            TextFault::Moment { byte: 23 },
+        ),
+        (
+            "daily(interval=0) | span(start 2024-01-02T00:00:00, end 2024-01-01T00:00:00)",
+            TextFault::Moment { byte: 20 },
+        ),
+        (
+            "{2024-01-01T00:00:00} | {2024-01-01T00:00:00Z} | daily(interval=0)",
+            TextFault::Rule(RuleFault::BadInterval),
         ),
     ] {
         assert_eq!(rt; shown(&rt, text).err(), Some(fault), "{text}");

@@ -1,17 +1,18 @@
 use Rattle.std.proofs.Common.{◌≡◌, ◌+◌, ◌≤◌}
 use Rattle.std.specs.Prelude.{min}
-use Rattle.expr_grammar.proofs.syntax.SyntaxTree.TheLaws.{the_size}
 use Rattle.expr_grammar.specs.Syntax.{form_of}
-use Rattle.expr_tree.specs.Sorts.{nodes_of}
-use Rattle.expr_text.specs.Trees.{tree_from}
+use Rattle.expr_text.specs.Trees.{size_of}
 use Rattle.expr_text.proofs.building.+nodes.Given as goal
+
+abbrev pub decreases-nodes : goal.decreases-nodes
+decreases-nodes l = size_of (form_of l.tree.now)
 
 abbrev pub invariant-left : goal.invariant-left
 invariant-left l = record {
-  counted : min 1025 (l.count + nodes_of (tree_from (form_of l.left))) ≡ min 1025 (nodes_of (tree_from (form_of l.fn.tree)));
+  counted : min 1025 (l.count + size_of (form_of l.left)) ≡ min 1025 (size_of (form_of l.fn.tree));
   most : l.count ≤ 1025;
-  smaller : the_size l.left ≤ the_size l.fn.tree;
+  smaller : size_of (form_of l.left) ≤ size_of (form_of l.fn.tree);
 }
 
 abbrev pub decreases-left : goal.decreases-left
-decreases-left l = the_size l.left
+decreases-left l = size_of (form_of l.left)

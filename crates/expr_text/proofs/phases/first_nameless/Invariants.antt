@@ -1,6 +1,0 @@
-use Rattle.std.proofs.Common.{◌≡◌, drop}
-use Rattle.expr_text.specs.Faults.{first_nameless}
-use Rattle.expr_text.proofs.phases.first_nameless.Given as goal
-
-abbrev pub invariant-loop-token : goal.invariant-loop-token
-invariant-loop-token l = first_nameless (drop l.token-index l.tokens) ≡ first_nameless l.tokens
