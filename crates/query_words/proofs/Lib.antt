@@ -1,5 +1,6 @@
-pub mod OneAnswer
+pub mod OneReading
 pub mod Positions
 pub mod SettingLemmas
-pub mod SomeAnswer
+pub mod Stamps
+pub mod SomeReading
 pub mod WordLemmas

@@ -9,7 +9,7 @@ use Rattle.query_words.specs.declared.commands.Command.TheVariants.{Next, Previo
 use Rattle.query_words.specs.declared.commands.Key.{Key}
 use Rattle.query_words.specs.declared.commands.Key.TheVariants.{At, From, To, Dir, Limit, Budget, Token, Seed}
 use Rattle.query_words.specs.Commands.{name_of, key_text, keys_of}
-use Rattle.query_words.specs.Words.{word_of, Fits, IsValue, Lacks}
+use Rattle.query_words.specs.Words.{word_of, Fits, InForm, Lacks}
 
 -- `=`
 abbrev pub is_equals : ℕ → Bool
@@ -61,13 +61,13 @@ pub one_value : (a b : Key) (v w : List ℕ) → word_of a v ≡ word_of b w →
 one_value a b v w e = sym (value_after a v) ∙ ap (after_first is_equals) e ∙ value_after b w
 
 -- a word that fits does so with its own key and value
-pub fits_by : (command : Command) (before : List (List ℕ)) (word : List ℕ) (key : Key) (value : List ℕ) → word ≡ word_of key value → Fits command before word → Contains (keys_of command) key × Lacks before key × IsValue key value
+pub fits_by : (command : Command) (before : List (List ℕ)) (word : List ℕ) (key : Key) (value : List ℕ) → word ≡ word_of key value → Fits command before word → Contains (keys_of command) key × Lacks before key × InForm before key value
 fits_by command before word key value is fits =
     let whole : word_of fits.key fits.value ≡ word_of key value = sym fits.word_is ∙ is in
     let same = one_key fits.key key fits.value value whole in (
       subst (Contains (keys_of command)) same fits.of_command,
       subst (Lacks before) same fits.first,
-      subst (IsValue key) (one_value fits.key key fits.value value whole) (subst (λ k. IsValue k fits.value) same fits.in_form),
+      subst (InForm before key) (one_value fits.key key fits.value value whole) (subst (λ k. InForm before k fits.value) same fits.in_form),
     )
 
 -- the command of a name, and any where it is none

@@ -1,13 +1,13 @@
 //! The laws of words, for proofs that cite them.
 
-ghost use Rattle.query_words.specs.Laws.{AnswersExist, AnswersAreUnique};
+ghost use Rattle.query_words.specs.Laws.{WordsAreRead, WordsAreReadOnce};
 
 use moment_text::literal_laws;
 
 /// Any words have one answer, a query or a fault, so that what [`read_words`](crate::read_words) gives is settled by them.
-pub fn answer_laws()
-    ensures exist { AnswersExist }
-    ensures unique { AnswersAreUnique }
+pub fn words_laws()
+    ensures exist { WordsAreRead }
+    ensures unique { WordsAreReadOnce }
 {
     literal_laws();
 }

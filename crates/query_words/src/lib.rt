@@ -12,8 +12,8 @@ mod settings;
 mod values;
 
 pub use commands::{Command, Key};
-pub use laws::answer_laws;
-pub use queries::{Query, WordsFault};
+pub use laws::words_laws;
+pub use queries::{Neighbour, Query, WordsFault};
 pub use reading::{DEFAULT_BUDGET, read_words};
 
 #[cfg(test)]

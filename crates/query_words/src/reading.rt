@@ -2,34 +2,35 @@
 
 ghost use Rattle.std.specs.Prelude.{◌≡◌, ◌<◌, ◌+◌, ◌^◌, ◌∷◌, List, ℕ, map, length};
 ghost use Rattle.std.specs.String.{string_bytes};
-ghost use Rattle.query_words.specs.declared.commands.Command.TheVariants.{Next, Show};
+ghost use Rattle.query_words.specs.declared.commands.Command.TheVariants.{Show};
 ghost use Rattle.query_words.specs.Commands.{name_of};
-ghost use Rattle.query_words.specs.Words.{IsAnswer};
+ghost use Rattle.query_words.specs.Neighbours.{command_of};
+ghost use Rattle.query_words.specs.Words.{AreRead};
 
-use crate::commands::Command;
-use crate::queries::{Query, WordsFault};
+use crate::commands::{Command, Key};
+use crate::queries::{Neighbour, Query, WordsFault};
 use crate::settings::read_settings;
 
 /// The budget of a search where the words give none.
 pub const DEFAULT_BUDGET: u64 = 100_000_000;
 
-/// The query that the words behind `next` ask.
-fn read_next(later: &[String]) -> Result<Query, WordsFault>
+/// The query that the words behind the command of a neighbour ask.
+fn read_near(side: Neighbour, later: &[String]) -> Result<Query, WordsFault>
     requires { length later.now + 1 < 2 ^ 64 }
-    ensures { IsAnswer (name_of Next ∷ map string_bytes later.now) result }
+    ensures { AreRead (name_of (command_of side) ∷ map string_bytes later.now) result }
 {
-    let settings = read_settings(Command::Next, later)?;
-    let Some(at) = settings.at else {
+    let settings = read_settings(side.command(), later)?;
+    let Some(at) = settings.stamp(Key::At) else {
         return Err(WordsFault::Bad(later.len() + 1));
     };
-    let budget = settings.budget.unwrap_or(DEFAULT_BUDGET);
-    Ok(Query::Next { at, budget })
+    let budget = settings.number(Key::Budget).unwrap_or(DEFAULT_BUDGET);
+    Ok(Query::Near { side, at, budget })
 }
 
 /// The query that the words behind `show` ask.
 fn read_show(later: &[String]) -> Result<Query, WordsFault>
     requires { length later.now + 1 < 2 ^ 64 }
-    ensures { IsAnswer (name_of Show ∷ map string_bytes later.now) result }
+    ensures { AreRead (name_of Show ∷ map string_bytes later.now) result }
 {
     read_settings(Command::Show, later)?;
     Ok(Query::Show)
@@ -45,7 +46,7 @@ fn read_show(later: &[String]) -> Result<Query, WordsFault>
 /// number of the first bad word, from 0; where no word is bad and the command or a required key is missing, it is the
 /// number of words.
 pub fn read_words(words: &[String]) -> Result<Query, WordsFault>
-    ensures { IsAnswer (map string_bytes words.now) result }
+    ensures { AreRead (map string_bytes words.now) result }
 {
     let Some((first, later)) = words.split_first() else {
         return Err(WordsFault::Bad(0));
@@ -54,7 +55,7 @@ pub fn read_words(words: &[String]) -> Result<Query, WordsFault>
         return Err(WordsFault::Bad(0));
     };
     match command {
-        Command::Next => read_next(later),
+        Command::Next => read_near(Neighbour::Next, later),
         Command::Show => read_show(later),
         _ => Err(WordsFault::Unbuilt),
     }

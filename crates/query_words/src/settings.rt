@@ -3,43 +3,101 @@
 ghost use Rattle.std.specs.Prelude.{◌≡◌, ◌<◌, ◌+◌, ◌^◌, ◌++◌, ◌∷◌, [], ℕ, List, map, length, IsTrue, true, false, MatchResult};
 ghost use Rattle.std.specs.String.{string_bytes};
 ghost use Rattle.query_words.specs.Commands.{name_of, is_built};
-ghost use Rattle.query_words.specs.Words.{word_of, Fits, IsRefused, IsValue, Lacks};
-ghost use Rattle.query_words.specs.Reading.{AllFit, Holds, IsPut};
+ghost use Rattle.query_words.specs.Words.{word_of, Agrees, Fits, InForm, IsRefused, Lacks};
+ghost use Rattle.query_words.specs.Reading.{number_in, place_of, stamp_in, value_at, AllFit, AreOrdered, Holds};
 
 use crate::commands::{Command, Key};
 use crate::queries::WordsFault;
-use crate::values::{read_budget, setting};
+use crate::values::{Value, read_value, setting};
 use moment_core::Stamp;
-use moment_text::read_moment;
+use moment_text::literal_laws;
 
-/// The values that words give, None where they don't.
-#[derive(Clone, Copy, Debug, PartialEq, Eq)]
+/// The values that words give, by key; None where they don't.
+#[derive(Clone, Copy, Debug)]
 pub(crate) struct Settings {
-    pub(crate) at: Option<Stamp>,
-    pub(crate) budget: Option<u64>,
+    values: [Option<Value>; 8],
 }
 
-/// Puts a value into an empty place, and tells whether there was a value and the place was empty.
-fn put<T: Copy>(place: &mut Option<T>, value: Option<T>) -> bool
-    ensures { IsPut place.old place.new value result }
+/// Where the value of a key stands.
+fn place_of(key: Key) -> usize
+    ensures value { result ≡ place_of key }
+    ensures small { result < 8 }
 {
-    let fits = place.is_none() && value.is_some();
-    if fits {
-        *place = value;
+    match key {
+        Key::At => 0,
+        Key::From => 1,
+        Key::To => 2,
+        Key::Dir => 3,
+        Key::Limit => 4,
+        Key::Budget => 5,
+        Key::Token => 6,
+        Key::Seed => 7,
     }
-    fits
+}
+
+/// Whether two moments are in order and on one clock, where there are both.
+fn is_before(first: Option<Stamp>, last: Option<Stamp>) -> bool
+    ensures fits { IsTrue result → AreOrdered first last }
+    ensures unfit { result ≡ false → ¬ (AreOrdered first last) }
+{
+    match (first, last) {
+        (Some(first), Some(last)) => {
+            first.moment.0 <= last.moment.0 && first.absolute == last.absolute
+        }
+        _ => true,
+    }
 }
 
 impl Settings {
-    const NONE: Settings = Settings {
-        at: None,
-        budget: None,
-    };
+    const NONE: Settings = Settings { values: [None; 8] };
+
+    fn get(&self, key: Key) -> Option<Value>
+        ensures { result ≡ value_at self.now key }
+    {
+        self.values[place_of(key)]
+    }
+
+    /// The moment that the words give the key.
+    pub(crate) fn stamp(&self, key: Key) -> Option<Stamp>
+        ensures { result ≡ stamp_in (value_at self.now key) }
+    {
+        match self.get(key) {
+            Some(Value::Stamp(stamp)) => Some(stamp),
+            _ => None,
+        }
+    }
+
+    /// The number that the words give the key.
+    pub(crate) fn number(&self, key: Key) -> Option<u64>
+        ensures { result ≡ number_in (value_at self.now key) }
+    {
+        match self.get(key) {
+            Some(Value::Number(n)) => Some(n),
+            _ => None,
+        }
+    }
+
+    /// Whether the value and what was set before are the ends of a window in order, where they are such ends.
+    fn agrees(&self, key: Key, value: Value) -> bool
+        ensures fits { IsTrue result → (before : List (List ℕ)) → Holds before self.now
+            → Agrees before key value }
+        ensures unfit { result ≡ false → (before : List (List ℕ)) → Holds before self.now
+            → ¬ (Agrees before key value) }
+    {
+        literal_laws();
+        match (key, value) {
+            (Key::From, Value::Stamp(first)) => is_before(Some(first), self.stamp(Key::To)),
+            (Key::To, Value::Stamp(last)) => is_before(self.stamp(Key::From), Some(last)),
+            _ => true,
+        }
+    }
 
     /// Reads a word behind the words that were read before, and tells whether it fits there.
     fn set(&mut self, command: Command, word: &str) -> bool
-        ensures fits { IsTrue result → (before : List (List ℕ)) → Holds before self.old → Fits command before word.now × Holds (before ++ word.now ∷ []) self.new }
-        ensures unfit { result ≡ false → (before : List (List ℕ)) → Holds before self.old → ¬ (Fits command before word.now) }
+        ensures fits { IsTrue result → (before : List (List ℕ)) → Holds before self.old
+            → Fits command before word.now × Holds (before ++ word.now ∷ []) self.new }
+        ensures unfit { result ≡ false → (before : List (List ℕ)) → Holds before self.old
+            → ¬ (Fits command before word.now) }
     {
         let Some((key, value)) = setting(word) else {
             return false;
@@ -49,15 +107,24 @@ impl Settings {
 
     /// Reads the value of a key that wasn't given before, and tells whether that is so and the value is in the key's form.
     fn give(&mut self, key: Key, value: &str) -> bool
-        ensures fits { IsTrue result → (before : List (List ℕ)) → Holds before self.old → Lacks before key × IsValue key value.now × Holds (before ++ word_of key value.now ∷ []) self.new }
-        ensures unfit { result ≡ false → (before : List (List ℕ)) → Holds before self.old → ¬ (Lacks before key × IsValue key value.now) }
+        ensures fits { IsTrue result → (before : List (List ℕ)) → Holds before self.old
+            → Lacks before key × InForm before key value.now
+            × Holds (before ++ word_of key value.now ∷ []) self.new }
+        ensures unfit { result ≡ false → (before : List (List ℕ)) → Holds before self.old
+            → ¬ (Lacks before key × InForm before key value.now) }
     {
-        match key {
-            Key::At => put(&mut self.at, read_moment(value.as_bytes())),
-            Key::Budget => put(&mut self.budget, read_budget(value)),
-            // No command that is built has the others.
-            _ => false,
+        literal_laws();
+        let Some(read) = read_value(key, value) else {
+            return false;
+        };
+        if self.get(key).is_some() {
+            return false;
         }
+        if !self.agrees(key, read) {
+            return false;
+        }
+        self.values[place_of(key)] = Some(read);
+        true
     }
 }
 
@@ -65,7 +132,9 @@ impl Settings {
 pub(crate) fn read_settings(command: Command, later: &[String]) -> Result<Settings, WordsFault>
     requires built { is_built command ≡ true }
     requires short { length later.now + 1 < 2 ^ 64 }
-    ensures { MatchResult result (λ s. AllFit command (map string_bytes later.now) × Holds (map string_bytes later.now) s) (IsRefused (name_of command ∷ map string_bytes later.now)) }
+    ensures { MatchResult result
+        (λ s. AllFit command (map string_bytes later.now) × Holds (map string_bytes later.now) s)
+        (IsRefused (name_of command ∷ map string_bytes later.now)) }
 {
     let mut settings = Settings::NONE;
     for (i, word) in later.iter().enumerate() {

@@ -10,7 +10,11 @@ const fn next(absolute: bool, budget: u64) -> Result<Query, WordsFault> {
         moment: AT,
         absolute,
     };
-    Ok(Query::Next { at, budget })
+    Ok(Query::Near {
+        side: Neighbour::Next,
+        at,
+        budget,
+    })
 }
 
 const fn bad(n: usize) -> Result<Query, WordsFault> {

@@ -2,12 +2,18 @@
 
 ghost use Rattle.std.specs.Prelude.{◌≡◌, ◌≢◌, ℕ, List, IfSome, IfNone};
 ghost use Rattle.query_words.specs.declared.commands.Key.{Key};
-ghost use Rattle.query_words.specs.Words.{word_of, IsBudget, IsNumber};
+ghost use Rattle.query_words.specs.declared.values.Value.{Value as TheValue};
+ghost use Rattle.query_words.specs.Words.{word_of, IsDirValue, IsNumber, IsNumberValue, IsStampValue, IsValue};
 
 use crate::commands::Key;
+use moment_core::{Dir, Stamp};
+use moment_text::read_moment;
 
 /// The greatest budget of a search.
 const MAX_BUDGET: u64 = 1_000_000_000_000;
+
+/// The greatest limit of items.
+const MAX_LIMIT: u64 = 1_000_000;
 
 /// The key and the value of a word `key=value`, or None for another word.
 pub(crate) fn setting(word: &str) -> Option<(Key, &str)>
@@ -36,10 +42,56 @@ fn read_number(digits: &str, least: u64, most: u64) -> Option<u64>
     }
 }
 
-/// A budget, or None for a text that is none.
-pub(crate) fn read_budget(digits: &str) -> Option<u64>
-    ensures some { IfSome result (λ n. IsBudget digits.now n) }
-    ensures none { IfNone result ((n : ℕ) → ¬ (IsBudget digits.now n)) }
+/// What the value of a key means.
+#[derive(Clone, Copy, Debug, PartialEq, Eq)]
+pub enum Value {
+    Stamp(Stamp),
+    Dir(Dir),
+    Number(u64),
+}
+
+fn stamp_value(text: &str) -> Option<Value>
+    ensures some { IfSome result (IsStampValue text.now) }
+    ensures none { IfNone result ((v : TheValue) → ¬ (IsStampValue text.now v)) }
 {
-    read_number(digits, 1, MAX_BUDGET)
+    match read_moment(text.as_bytes()) {
+        Some(stamp) => Some(Value::Stamp(stamp)),
+        None => None,
+    }
+}
+
+fn dir_value(text: &str) -> Option<Value>
+    ensures some { IfSome result (IsDirValue text.now) }
+    ensures none { IfNone result ((v : TheValue) → ¬ (IsDirValue text.now v)) }
+{
+    match text {
+        "fore" => Some(Value::Dir(Dir::Fore)),
+        "back" => Some(Value::Dir(Dir::Back)),
+        _ => None,
+    }
+}
+
+fn number_value(text: &str, least: u64, most: u64) -> Option<Value>
+    ensures some { IfSome result (IsNumberValue least most text.now) }
+    ensures none { IfNone result ((v : TheValue) → ¬ (IsNumberValue least most text.now v)) }
+{
+    match read_number(text, least, most) {
+        Some(n) => Some(Value::Number(n)),
+        None => None,
+    }
+}
+
+/// The value of a key, or None for a text that isn't in the key's form. No text is a token yet.
+pub(crate) fn read_value(key: Key, text: &str) -> Option<Value>
+    ensures some { IfSome result (IsValue key text.now) }
+    ensures none { IfNone result ((v : TheValue) → ¬ (IsValue key text.now v)) }
+{
+    match key {
+        Key::At | Key::From | Key::To => stamp_value(text),
+        Key::Dir => dir_value(text),
+        Key::Limit => number_value(text, 1, MAX_LIMIT),
+        Key::Budget => number_value(text, 1, MAX_BUDGET),
+        Key::Token => None,
+        Key::Seed => number_value(text, 0, u64::MAX),
+    }
 }

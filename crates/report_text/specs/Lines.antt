@@ -19,6 +19,10 @@ use Rattle.span_core.specs.declared.bounds.Run.{Run}
 use Rattle.expr_tree.specs.declared.tree.Kind.{Kind}
 use Rattle.expr_tree.specs.declared.tree.Kind.TheVariants.{Moments, Spans}
 
+-- each line ends with a line feed
+abbrev pub with_line_feed : List ℕ → List ℕ
+with_line_feed text = text ++ codes "\n"
+
 -- a moment is its literal, with a Z on the absolute clock
 abbrev pub moment_text : Clock → ℤ → List ℕ
 moment_text clock t = literal_of t (is_absolute clock)
@@ -85,4 +89,4 @@ near_text (Budget s) kind clock = codes "budget " ++ stop_text s
 
 -- The line of a neighbour.
 abbrev pub near_line : Near → Kind → Clock → List ℕ
-near_line near kind clock = near_text near kind clock ++ codes "\n"
+near_line near kind clock = with_line_feed (near_text near kind clock)

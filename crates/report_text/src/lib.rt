@@ -7,11 +7,14 @@
 
 mod lines;
 mod neighbours;
+mod parts;
 mod pieces;
+mod refusals;
 
-pub use lines::Line;
+pub use lines::{LINE_FEED, Line};
 pub use moment_text::read_moment;
 pub use neighbours::line_near;
+pub use refusals::{Refusal, line_refusal};
 
 #[cfg(test)]
 mod tests;

@@ -1,7 +1,11 @@
-ghost use Rattle.std.specs.Prelude.{◌≡◌, ◌+◌, ◌≤◌, ◌++◌, [], length};
+ghost use Rattle.std.specs.Prelude.{◌≡◌, ◌+◌, ◌<◌, ◌≤◌, ◌++◌, [], length};
+ghost use Rattle.report_text.specs.Lines.{with_line_feed};
 
 use arrayvec::ArrayVec;
 use std::marker::Model;
+
+/// The byte that ends each line.
+pub const LINE_FEED: u8 = b'\n';
 
 /// A line of output, at most 128 bytes with its line feed.
 ///
@@ -34,6 +38,14 @@ impl Line {
         ensures len { length self.new ≡ length self.old + length bytes.now }
     {
         self.text.try_extend_from_slice(bytes).unwrap();
+    }
+
+    /// Ends the line.
+    pub(crate) fn end(&mut self)
+        requires { length self.old < 128 }
+        ensures { self.new ≡ with_line_feed self.old }
+    {
+        self.put(&[LINE_FEED]);
     }
 
     /// The bytes of the line, with its line feed.

@@ -36,6 +36,6 @@ pub fn line_near(near: Near, kind: Kind, clock: Clock) -> Line
 {
     let mut line = Line::new();
     put_near(&mut line, near, kind, clock);
-    line.put(b"\n");
+    line.end();
     line
 }

@@ -1,6 +1,6 @@
 //! What several lines have in common: moments, runs, windows and stops.
 
-ghost use Rattle.std.specs.Prelude.{◌≡◌, ◌+◌, ◌≤◌, ◌++◌, length};
+ghost use Rattle.std.specs.Prelude.{◌≡◌, ◌+◌, ◌≤◌, ◌++◌, decimal, length};
 ghost use Rattle.moment_core.specs.Line.{IsCalendarMoment};
 ghost use Rattle.span_core.specs.Answers.{IsCalendarWindow};
 ghost use Rattle.span_core.specs.Bounds.{IsCalendarBound, IsCalendarRun};
@@ -13,7 +13,7 @@ use moment_core::{Clock, HIGH, LOW, Moment, Stamp, Window, floor};
 use moment_text::write_literal;
 use span_core::{Bound, Run, Stop};
 
-fn put_moment(line: &mut Line, moment: Moment, clock: Clock)
+pub fn put_moment(line: &mut Line, moment: Moment, clock: Clock)
     requires room { length line.old + 21 ≤ 128 }
     requires in_range { IsCalendarMoment moment.0 }
     ensures bytes { line.new ≡ line.old ++ moment_text clock moment.0 }
@@ -132,14 +132,24 @@ pub fn put_window(line: &mut Line, window: Window, clock: Clock)
     put_moment(line, floor(window.hi), clock);
 }
 
+/// Writes a number in decimal.
+pub fn put_number(line: &mut Line, number: u64)
+    requires { length line.old + 20 ≤ 128 }
+    ensures bytes { line.new ≡ line.old ++ decimal number }
+    ensures len { length line.new ≤ length line.old + 20 }
+{
+    let mut buffer = Buffer::new();
+    line.put(buffer.format(number).as_bytes());
+}
+
 /// Writes the position and the node of a stop.
 pub fn put_stop(line: &mut Line, stop: Stop)
-    requires { length line.old + 31 ≤ 128 }
+    requires { length line.old + 41 ≤ 128 }
     ensures bytes { line.new ≡ line.old ++ stop_text stop }
-    ensures len { length line.new ≤ length line.old + 31 }
+    ensures len { length line.new ≤ length line.old + 41 }
 {
     let mut buffer = Buffer::new();
     line.put(buffer.format(stop.at.0).as_bytes());
     line.put(b" ");
-    line.put(buffer.format(stop.node).as_bytes());
+    put_number(line, stop.node as u64);
 }

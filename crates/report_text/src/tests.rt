@@ -1,10 +1,12 @@
 ghost use Rattle.std.specs.Prelude.{◌≡◌, true};
 ghost use Rattle.span_core.specs.Answers.{IsCalendarNear};
 ghost use Rattle.span_core.specs.Bounds.{IsCalendarBound};
+ghost use Rattle.report_text.specs.Refusals.{IsPrintable};
 
-use crate::line_near;
-use expr_tree::Kind;
+use crate::{Refusal, line_near, line_refusal};
+use expr_tree::{Kind, SortFault};
 use moment_core::{Clock, HIGH, LOW, Moment, Pos, Window, floor, in_range};
+use rule_core::{Part, RuleFault};
 use span_core::{Bound, Near, Run, Stop};
 
 fn is_calendar_bound(bound: Bound) -> bool
@@ -141,5 +143,59 @@ fn other_answers_have_these_lines(rt: HostRuntime) {
         assert!(rt; is_calendar_near(near), "{text}");
         let line = line_near(near, Kind::Moments, Clock::Floating);
         assert_eq!(rt; line.bytes(), text.as_bytes(), "{text}");
+    }
+}
+
+fn is_printable(refusal: Refusal) -> bool
+    ensures { result ≡ true → IsPrintable refusal }
+{
+    match refusal {
+        Refusal::Settle { at, .. } => in_range(at),
+        _ => true,
+    }
+}
+
+#[test]
+fn a_refusal_names_its_fault(rt: HostRuntime) {
+    let at = Moment(1_709_164_800);
+    let passed = 20_000_000;
+    for (refusal, text) in [
+        (Refusal::Words(0), "refused words 0\n"),
+        (Refusal::Unbuilt, "refused unbuilt\n"),
+        (Refusal::Long, "refused long\n"),
+        (Refusal::Token(65_535), "refused token 65535\n"),
+        (Refusal::Syntax, "refused syntax\n"),
+        (Refusal::Moment(17), "refused moment 17\n"),
+        (
+            Refusal::Rule(RuleFault::BadMix(Part::Yearly, Part::WeekStart)),
+            "refused rule mix yearly week_start\n",
+        ),
+        (
+            Refusal::Rule(RuleFault::BadMix(Part::ByMonthDay, Part::ByMonthDay)),
+            "refused rule mix BYMONTHDAY BYMONTHDAY\n",
+        ),
+        (
+            Refusal::Rule(RuleFault::BadValue(Part::Days)),
+            "refused rule value days\n",
+        ),
+        (
+            Refusal::Rule(RuleFault::BadInterval),
+            "refused rule interval\n",
+        ),
+        (Refusal::Sort(SortFault::Nodes), "refused sort nodes\n"),
+        (Refusal::Sort(SortFault::Depth), "refused sort depth\n"),
+        (Refusal::Sort(SortFault::Event), "refused sort event\n"),
+        (Refusal::Sort(SortFault::Kind), "refused sort kind\n"),
+        (Refusal::Sort(SortFault::Clock), "refused sort clock\n"),
+        (Refusal::Sort(SortFault::Reach), "refused sort reach\n"),
+        (Refusal::Two, "refused two\n"),
+        (Refusal::Clock, "refused clock\n"),
+        (
+            Refusal::Settle { passed, at },
+            "refused settle 20000000 2024-02-29T00:00:00\n",
+        ),
+    ] {
+        assert!(rt; is_printable(refusal), "{text}");
+        assert_eq!(rt; line_refusal(refusal).bytes(), text.as_bytes(), "{text}");
     }
 }

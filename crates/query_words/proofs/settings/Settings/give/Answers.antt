@@ -1,30 +1,28 @@
-use Rattle.std.proofs.Common.{IfSome, IfNone, subst}
-use Rattle.moment_core.specs.declared.line.Stamp.{Stamp}
-use Rattle.query_words.specs.declared.commands.Key.TheVariants.{At, Budget}
-use Rattle.query_words.specs.Words.{IsBudget, IsStamp}
-use Rattle.query_words.proofs.SettingLemmas.{put_tells, unput_tells, tells_more, none_read, budget_not_at, at_not_budget}
+use Rattle.std.proofs.Common.{rules, ◌≡◌, true, false, subst}
+use Rattle.std.specs.Option.{is_some}
+use Rattle.query_words.specs.Reading.{value_at}
+use Rattle.query_words.specs.Words.{Agrees, IsValue}
+use Rattle.query_words.proofs.Stamps.{one_meaning}
+use Rattle.query_words.proofs.SettingLemmas.{none_if_not_some, put_holds, some_not_none, told_some}
 use Rattle.query_words.proofs.settings.Settings.give.Goals as goal
 
-pub returns-in-At-clause-fits : goal.returns-in-At-clause-fits
-returns-in-At-clause-fits c =
-    rw c.in-At.is (λ put before h.
-    let read = subst (λ v. IfSome c.read_moment.result (IsStamp v)) c.as_bytes.ensures.value c.read_moment.ensures.named in
-    let (lacks, form, tells) = put_tells before At c.args.value.now IsStamp c.args.self.now.at c.put.new.place c.read_moment.result c.put.result c.put.ensures read h.at put in
-    (lacks, form, record { at = tells; budget = tells_more before Budget At c.args.value.now IsBudget c.args.self.now.budget budget_not_at h.budget }))
+pub returns-in_default-clause-unfit : goal.returns-in_default-clause-unfit
+returns-in_default-clause-unfit c = λ e before h x. c.in_default.ensures.none x.1.value x.1.is
 
-pub returns-in-At-clause-unfit : goal.returns-in-At-clause-unfit
-returns-in-At-clause-unfit c =
-    rw c.in-At.is (λ put before h x.
-    let none = subst (λ v. IfNone c.read_moment.result ((s : Stamp) → ¬ (IsStamp v s))) c.as_bytes.ensures.value (none_read c.as_bytes.result.now c.read_moment.result c.read_moment.ensures.found) in
-    unput_tells before At c.args.value.now IsStamp c.args.self.now.at c.put.new.place c.read_moment.result c.put.result c.put.ensures none h.at put x.0 x.1.0 x.1.1)
+pub returns-then-is_some-clause-unfit : goal.returns-then-is_some-clause-unfit
+returns-then-is_some-clause-unfit c = λ e before h x.
+    let old = value_at c.args.self.now c.args.key in
+    let some : is_some old ≡ true = search rules in
+    told_some before c.args.key (IsValue c.args.key) old (some_not_none old some) (h.each c.args.key) x.0
 
-pub returns-in-Budget-clause-fits : goal.returns-in-Budget-clause-fits
-returns-in-Budget-clause-fits c =
-    rw c.in-Budget.is (λ put before h.
-    let (lacks, form, tells) = put_tells before Budget c.args.value.now IsBudget c.args.self.now.budget c.put-in-Budget.new.place c.read_budget.result c.put-in-Budget.result c.put-in-Budget.ensures c.read_budget.ensures.some h.budget put in
-    (lacks, form, record { at = tells_more before At Budget c.args.value.now IsStamp c.args.self.now.at at_not_budget h.at; budget = tells }))
+pub returns-clause-fits : goal.returns-clause-fits
+returns-clause-fits c = λ e before h.
+    let old = value_at c.args.self.now c.args.key in
+    let none : is_some old ≡ false = search rules in
+    let agrees = c.agrees.ensures.fits (search rules) before h in
+    rw c.place_of.ensures.value (put_holds before c.args.self.now c.args.key c.args.value.now c.in-Some.read h (none_if_not_some old none) c.in-Some.ensures.some agrees)
 
-pub returns-in-Budget-clause-unfit : goal.returns-in-Budget-clause-unfit
-returns-in-Budget-clause-unfit c =
-    rw c.in-Budget.is (λ put before h x.
-    unput_tells before Budget c.args.value.now IsBudget c.args.self.now.budget c.put-in-Budget.new.place c.read_budget.result c.put-in-Budget.result c.put-in-Budget.ensures c.read_budget.ensures.none h.budget put x.0 x.1.0 x.1.1)
+pub returns-then-not-agrees-clause-unfit : goal.returns-then-not-agrees-clause-unfit
+returns-then-not-agrees-clause-unfit c = λ e before h x.
+    let same = one_meaning c.literal_laws.ensures.apart c.args.key c.args.value.now x.1.value c.in-Some.read x.1.is c.in-Some.ensures.some in
+    c.agrees.ensures.unfit c.if-not-agrees.true before h (subst (Agrees before c.args.key) same x.1.agrees)

@@ -10,16 +10,21 @@ use Rattle.moment_core.specs.Line.{IsCalendarMoment, IsWorkingMoment}
 use Rattle.moment_core.proofs.FloorLemmas.{floor_arith}
 use Rattle.moment_text.specs.Laws.{LiteralsTellMomentsApart}
 use Rattle.query_words.specs.declared.commands.Command.{Command}
-use Rattle.query_words.specs.declared.commands.Command.TheVariants.{Next, Show}
+use Rattle.query_words.specs.declared.commands.Command.TheVariants.{Show}
+use Rattle.query_words.specs.declared.queries.Neighbour.{Neighbour}
+use Rattle.query_words.specs.declared.queries.Neighbour.TheVariants as neighbours
+use Rattle.query_words.specs.Neighbours.{command_of}
+use Rattle.query_words.proofs.SettingLemmas.{near_built}
 use Rattle.query_words.specs.declared.commands.Key.{Key}
 use Rattle.query_words.specs.declared.commands.Key.TheVariants.{At, Budget}
 use Rattle.query_words.specs.declared.queries.Query.{Query}
 use Rattle.query_words.specs.declared.queries.WordsFault.{WordsFault}
 use Rattle.query_words.specs.declared.queries.WordsFault.TheVariants.{Bad}
 use Rattle.query_words.specs.Commands.{name_of, is_built}
-use Rattle.query_words.specs.Laws.{AnswersAreUnique}
-use Rattle.query_words.specs.Words.{word_of, Gives, Lacks, IsStamp, IsBad, unfit, IsFirstBad, AreGood, Says, SaysBudget, given, by_default, Asks, next, show, IsRefused, no_command, unbuilt, bad}
+use Rattle.query_words.specs.Laws.{WordsAreReadOnce}
+use Rattle.query_words.specs.Words.{word_of, Gives, Lacks, IsStamp, IsBad, unfit, IsFirstBad, AreGood, Says, SaysBudget, given, by_default, Asks, near, show, IsRefused, no_command, unbuilt, bad}
 use Rattle.query_words.proofs.Positions.{cut_at}
+use Rattle.query_words.proofs.Stamps.{one_stamp}
 use Rattle.query_words.proofs.WordLemmas.{one_key, one_value, one_command}
 
 one_name : (words later rest : List (List ℕ)) (c d : Command) → words ≡ name_of c ∷ later → words ≡ name_of d ∷ rest → c ≡ d
@@ -54,16 +59,6 @@ one_given command later key v w good (j, inside, first) (k, within, second) =
       ]
     ]
 
-working : (t : ℤ) → IsCalendarMoment t → IsWorkingMoment t
-working t h = (omega (arith, floor_arith, h.0), omega (arith, floor_arith, h.1))
-
-one_stamp : LiteralsTellMomentsApart → (text : List ℕ) (s t : Stamp) → IsStamp text s → IsStamp text t → s ≡ t
-one_stamp apart text s t a b =
-    let both = apart s.moment.0 t.moment.0 s.absolute t.absolute (working s.moment.0 a.in_range) (working t.moment.0 b.in_range) (sym a.is_literal ∙ b.is_literal) in
-    let moment : s ≡ record { moment = record { 0 = t.moment.0 }; absolute = s.absolute } = ap (λ z. record { moment = record { 0 = z }; absolute = s.absolute }) both.0 in
-    let absolute : record { moment = record { 0 = t.moment.0 }; absolute = s.absolute } ≡ t = ap (λ z. record { moment = record { 0 = t.moment.0 }; absolute = z }) both.1 in
-    moment ∙ absolute
-
 one_at : LiteralsTellMomentsApart → (command : Command) (later : List (List ℕ)) (s t : Stamp) → AreGood command later → Says later At IsStamp s → Says later At IsStamp t → s ≡ t
 one_at apart command later s t good a b =
     let same : b.value ≡ a.value = one_given command later At b.value a.value good b.given a.given in
@@ -75,17 +70,21 @@ one_budget command later n m good (given _ a) (by_default lacks) = absurd (lacks
 one_budget command later n m good (by_default lacks) (given _ b) = absurd (lacks b.value b.given)
 one_budget command later n m good (by_default lacks) (by_default also) = refl
 
-next_not_show : Next ≢ Show
-next_not_show e = cc
+near_not_show : (side : Neighbour) → command_of side ≢ Show
+near_not_show neighbours.Next e = cc
+
+one_side : (a b : Neighbour) → command_of a ≡ command_of b → a ≡ b
+one_side neighbours.Next neighbours.Next e = refl
 
 one_query : LiteralsTellMomentsApart → (words : List (List ℕ)) {p q : Query} → Asks words p → Asks words q → p ≡ q
-one_query apart words (next later at budget e good says pays) (next rest also_at also_budget f fine tells spends) =
-    let same : rest ≡ later = one_rest words rest later Next Next f e in
-    let at_is : at ≡ also_at = one_at apart Next later at also_at good says (subst (λ l. Says l At IsStamp also_at) same tells) in
-    let budget_is : budget ≡ also_budget = one_budget Next later budget also_budget good pays (subst (λ l. SaysBudget l also_budget) same spends) in
+one_query apart words (near side later at budget e good says pays) (near other rest also_at also_budget f fine tells spends) =
+    let same : rest ≡ later = one_rest words rest later (command_of other) (command_of side) f e in
+    let sides : side ≡ other = one_side side other (one_name words later rest (command_of side) (command_of other) e f) in
+    let at_is : at ≡ also_at = one_at apart (command_of side) later at also_at good says (subst (λ l. Says l At IsStamp also_at) same tells) in
+    let budget_is : budget ≡ also_budget = one_budget (command_of side) later budget also_budget good pays (subst (λ l. SaysBudget l also_budget) same spends) in
     cc
-one_query apart words (next later at budget e good says pays) (show rest f fine) = absurd (next_not_show (one_name words later rest Next Show e f))
-one_query apart words (show later e good) (next rest at budget f fine tells spends) = absurd (next_not_show (one_name words rest later Next Show f e))
+one_query apart words (near side later at budget e good says pays) (show rest f fine) = absurd (near_not_show side (one_name words later rest (command_of side) Show e f))
+one_query apart words (show later e good) (near side rest at budget f fine tells spends) = absurd (near_not_show side (one_name words rest later (command_of side) Show f e))
 one_query apart words (show later e good) (show rest f fine) = refl
 
 -- words that ask have a built command, and good words behind it
@@ -97,7 +96,7 @@ record HasGood (words : List (List ℕ)) : Type 0 where
   good : AreGood command later
 
 asks_good : (words : List (List ℕ)) {q : Query} → Asks words q → HasGood words
-asks_good words (next later at budget e good says pays) = record { command = Next; later = later; is = e; built = refl; good = good }
+asks_good words (near side later at budget e good says pays) = record { command = command_of side; later = later; is = e; built = near_built side; good = good }
 asks_good words (show later e good) = record { command = Show; later = later; is = e; built = refl; good = good }
 
 moved_bad : (c d : Command) (later rest : List (List ℕ)) (n : ℕ) → c ≡ d → later ≡ rest → IsBad c later n → IsBad d rest n
@@ -131,8 +130,8 @@ one_fault words (bad c l n e built first) (bad d r m f also second) =
     let moved : IsFirstBad c l m = subst (λ x. IsFirstBad x l m) (one_name words r l d c f e) (subst (λ y. IsFirstBad d y m) (one_rest words r l d c f e) second) in
     ap Bad (one_first c l n m first moved)
 
-pub answers_are_unique : LiteralsTellMomentsApart → AnswersAreUnique
-answers_are_unique apart words (Ok p) (Ok q) a b = ap Ok (one_query apart words a b)
-answers_are_unique apart words (Ok p) (Err f) a b = absurd (refused_not_good words (asks_good words a) b)
-answers_are_unique apart words (Err f) (Ok q) a b = absurd (refused_not_good words (asks_good words b) a)
-answers_are_unique apart words (Err f) (Err g) a b = ap Err (one_fault words a b)
+pub words_are_read_once : LiteralsTellMomentsApart → WordsAreReadOnce
+words_are_read_once apart words (Ok p) (Ok q) a b = ap Ok (one_query apart words a b)
+words_are_read_once apart words (Ok p) (Err f) a b = absurd (refused_not_good words (asks_good words a) b)
+words_are_read_once apart words (Err f) (Ok q) a b = absurd (refused_not_good words (asks_good words b) a)
+words_are_read_once apart words (Err f) (Err g) a b = ap Err (one_fault words a b)

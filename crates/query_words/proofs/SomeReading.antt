@@ -1,0 +1,413 @@
+-- Any words have an answer.
+use Rattle.std.proofs.Common.{◌≡◌, ◌≢◌, ◌<◌, ◌≤◌, ◌+◌, ◌++◌, ◌∷◌, [], ℕ, zero, suc, ℤ, pos, ◌+ℤ◌, ◌-ℤ◌, List, Bool, true, false, Contains, codes, Result, Ok, Err, ◌⊎◌, inl, inr, length, take, drop, get_or, refl, sym, ◌∙◌, ap, subst, arith, unsigned_abs, drop-cons}
+use Rattle.std.proofs.lemmas.Bool.{cases_lt, true≢false}
+use Rattle.std.proofs.lemmas.List.{take-append-drop, length-take-le}
+use Rattle.std.proofs.lemmas.Slice.Eq.{bytes_eq-Decides}
+use Rattle.std.specs.Char.{digit_value}
+use Rattle.std.specs.List.{before_first, after_first}
+use Rattle.std.specs.Str.{bytes_eq}
+use Rattle.std.specs.Str.Parse.{AllDigits, digits_value}
+use Rattle.moment_core.specs.declared.line.Stamp.{Stamp}
+use Rattle.moment_core.specs.declared.line.TheConstants.{LOW, WIDTH}
+use Rattle.moment_core.proofs.FloorLemmas.{floor_arith}
+use Rattle.moment_text.specs.Literal.{literal_of, Names}
+use Rattle.query_words.specs.declared.commands.Command.{Command}
+use Rattle.query_words.specs.declared.commands.Command.TheVariants.{Next, Previous, Current, Closest, Contains as ContainsOf, Walk, Resume, Min, Max, Empty, Count, Duration, Audit, ContainsSet, Intersects, Intersected, Show, Load}
+use Rattle.query_words.specs.declared.commands.Key.{Key}
+use Rattle.query_words.specs.declared.commands.Key.TheVariants.{At, From, To, Dir as DirOf, Limit, Budget, Token, Seed}
+use Rattle.query_words.specs.declared.values.Value.{Value}
+use Rattle.query_words.specs.declared.values.Value.TheVariants.{Stamp as Stamped, Dir as Directed, Number}
+use Rattle.moment_core.specs.declared.line.Dir.TheVariants.{Fore, Back}
+use Rattle.query_words.specs.declared.queries.Query.{Query}
+use Rattle.query_words.specs.declared.queries.Query.TheVariants.{Near, Show as Showing}
+use Rattle.query_words.specs.declared.queries.Neighbour.{Neighbour}
+use Rattle.query_words.specs.declared.queries.Neighbour.TheVariants as neighbours
+use Rattle.query_words.specs.Neighbours.{command_of}
+use Rattle.query_words.proofs.SettingLemmas.{needed_at}
+use Rattle.query_words.specs.declared.queries.WordsFault.{WordsFault}
+use Rattle.query_words.specs.declared.queries.WordsFault.TheVariants.{Unbuilt, Bad}
+use Rattle.query_words.specs.Commands.{name_of, is_built, key_text, keys_of, required}
+use Rattle.query_words.specs.Laws.{WordsAreRead}
+use Rattle.query_words.specs.Reading.{FitBelow}
+use Rattle.query_words.specs.Words.{word_of, Fits, Gives, Lacks, IsStamp, IsNumber, IsBudget, Agrees, AreInOrder, InForm, Says, IsDirValue, IsNumberValue, IsStampValue, IsValue, unfit, missing, IsFirstBad, AreGood, SaysBudget, given, by_default, Asks, near, show, no_command, unbuilt, bad, AreRead}
+use Rattle.std.proofs.Common.{int_le}
+use Rattle.std.proofs.lemmas.Int.{ints}
+use Rattle.moment_text.specs.Laws.{LiteralsTellMomentsApart}
+use Rattle.query_words.proofs.Stamps.{one_meaning, one_stamp}
+use Rattle.query_words.proofs.Positions.{cut_at, fits_one_more, unfit_first, missing_first, all_good}
+use Rattle.query_words.proofs.WordLemmas.{one_value, is_equals, key_before, value_after, read_key, read_key-text, one_key, read_command, read_command-name, fits_by}
+
+by_test : {P : Type 0} (b : Bool) → (b ≡ true → P) → (P → b ≡ true) → P ⊎ ¬ P
+by_test true there back = inl (there refl)
+by_test false there back = inr (λ p. true≢false (sym (back p)))
+
+same_or_not : (a b : List ℕ) → (a ≡ b) ⊎ ¬ (a ≡ b)
+same_or_not a b = by_test (bytes_eq a b) (bytes_eq-Decides a b).0 (bytes_eq-Decides a b).1
+
+record Found {X : Type 0} (P : X → Type 0) (xs : List X) : Type 0 where
+  element : X
+  inside : Contains xs element
+  passes : P element
+
+find_or_not : {X : Type 0} (P : X → Type 0) → ((x : X) → P x ⊎ ¬ (P x)) → (xs : List X) → Found P xs ⊎ ((x : X) → Contains xs x → ¬ (P x))
+find_or_not {X = X} P test [] = inr (λ x has p. absurd (omega (arith, has.1)))
+find_or_not {X = X} P test (y ∷ ys) =
+    elim (test y) [
+      | inl is ↦ inl (record { element = y; inside = (0, omega arith, refl); passes = is })
+      | inr isnt ↦ elim (find_or_not P test ys) [
+        | inl f ↦ inl (record { element = f.element; inside = (suc f.inside.0, omega (arith, f.inside.1), f.inside.2); passes = f.passes })
+        | inr none ↦ inr (λ x has. none_in isnt none x has)
+      ]
+    ]
+  where
+    none_in : ¬ (P y) → ((x : X) → Contains ys x → ¬ (P x)) → (x : X) → Contains (y ∷ ys) x → ¬ (P x)
+    none_in isnt none x (zero, less, e) p = isnt (subst P (sym e) p)
+    none_in isnt none x (suc k, less, e) p = none x (k, omega (arith, less), e) p
+
+command_or_not : (word : List ℕ) → ((c : Command) × (word ≡ name_of c)) ⊎ ((c : Command) → word ≢ name_of c)
+command_or_not word =
+    elim (same_or_not word (name_of (read_command word))) [
+      | inl is ↦ inl (read_command word, is)
+      | inr isnt ↦ inr (λ c e. isnt (e ∙ ap name_of (sym (ap read_command e ∙ read_command-name c))))
+    ]
+
+setting_or_not : (word : List ℕ) → ((key : Key) × (value : List ℕ) × (word ≡ word_of key value)) ⊎ ((key : Key) (value : List ℕ) → word ≢ word_of key value)
+setting_or_not word =
+    let key = read_key (before_first is_equals word) in
+    let value = after_first is_equals word in
+    elim (same_or_not word (word_of key value)) [
+      | inl is ↦ inl (key, value, is)
+      | inr isnt ↦ inr (λ k v e. isnt (e ∙ ap (λ x. word_of x v) (sym (named k v e)) ∙ ap (word_of key) (sym (ap (after_first is_equals) e ∙ value_after k v))))
+    ]
+  where
+    named : (k : Key) (v : List ℕ) → word ≡ word_of k v → read_key (before_first is_equals word) ≡ k
+    named k v e = ap read_key (ap (before_first is_equals) e ∙ key_before k v) ∙ read_key-text k
+
+key_or_not : (a b : Key) → (a ≡ b) ⊎ ¬ (a ≡ b)
+key_or_not a b =
+    elim (same_or_not (key_text a) (key_text b)) [
+      | inl e ↦ inl (sym (read_key-text a) ∙ ap read_key e ∙ read_key-text b)
+      | inr isnt ↦ inr (λ e. isnt (ap key_text e))
+    ]
+
+-- whether a word gives the key
+gives_or_not : (key : Key) (word : List ℕ) → ((value : List ℕ) × (word ≡ word_of key value)) ⊎ ¬ ((value : List ℕ) × (word ≡ word_of key value))
+gives_or_not key word =
+    elim (setting_or_not word) [
+      | inl s ↦ elim (key_or_not s.0 key) [
+        | inl same ↦ inl (s.1, subst (λ k. word ≡ word_of k s.1) same s.2)
+        | inr differs ↦ inr (λ x. differs (one_key s.0 key s.1 x.0 (sym s.2 ∙ x.1)))
+      ]
+      | inr none ↦ inr (λ x. none key x.0 x.1)
+    ]
+
+given_or_lacking : (words : List (List ℕ)) (key : Key) → ((value : List ℕ) × Gives words key value) ⊎ Lacks words key
+given_or_lacking words key =
+    elim (find_or_not (λ word. (value : List ℕ) × (word ≡ word_of key value)) (gives_or_not key) words) [
+      | inl f ↦ inl (f.passes.0, subst (Contains words) f.passes.1 f.inside)
+      | inr none ↦ inr (λ value gives. none (word_of key value) gives (value, refl))
+    ]
+
+lacking_or_not : (words : List (List ℕ)) (key : Key) → Lacks words key ⊎ ¬ (Lacks words key)
+lacking_or_not words key =
+    elim (given_or_lacking words key) [
+      | inl g ↦ inr (λ lacks. lacks g.0 g.1)
+      | inr lacks ↦ inl lacks
+    ]
+
+-- one of the numbers below n passes, or none does
+some_or_none : (p : ℕ → Bool) (n : ℕ) → ((k : ℕ) × (k < n) × (p k ≡ true)) ⊎ ((k : ℕ) → k < n → p k ≡ false)
+some_or_none p zero = inr (λ k less. absurd (omega (arith, less)))
+some_or_none p (suc n) =
+    elim (some_or_none p n) [
+      | inl f ↦ inl (f.0, omega (arith, f.1), f.2)
+      | inr none ↦ by_value (p n) refl none
+    ]
+  where
+    by_value : (b : Bool) → p n ≡ b → ((k : ℕ) → k < n → p k ≡ false) → ((k : ℕ) × (k < suc n) × (p k ≡ true)) ⊎ ((k : ℕ) → k < suc n → p k ≡ false)
+    by_value true e none = inl (n, omega arith, e)
+    by_value false e none = inr (λ k less. elim (cases_lt k n) [ inl below ↦ none k below | inr up ↦ (let same : k ≡ n = omega (arith, less, up) in ap p same ∙ e) ])
+
+moment_or_not : (text : List ℕ) (absolute : Bool) → ((t : ℤ) × Names text t absolute) ⊎ ((t : ℤ) → ¬ (Names text t absolute))
+moment_or_not text absolute =
+    elim (some_or_none (λ k. bytes_eq text (literal_of (LOW +ℤ pos k) absolute)) WIDTH) [
+      | inl f ↦ inl (
+        LOW +ℤ pos f.0,
+        record {
+          is_literal = (bytes_eq-Decides text (literal_of (LOW +ℤ pos f.0) absolute)).0 f.2;
+          in_range = (omega (arith, floor_arith), omega (arith, floor_arith, f.1));
+        },
+      )
+      | inr none ↦ inr (λ t names. not_named none t names)
+    ]
+  where
+    not_named : ((k : ℕ) → k < WIDTH → bytes_eq text (literal_of (LOW +ℤ pos k) absolute) ≡ false) → (t : ℤ) → ¬ (Names text t absolute)
+    not_named none t names =
+        let k = unsigned_abs (t -ℤ LOW) in
+        let low = names.in_range.0 in
+        let high = names.in_range.1 in
+        let there : t ≡ LOW +ℤ pos k = omega (arith, floor_arith, low) in
+        let within : k < WIDTH = omega (arith, floor_arith, low, high) in
+        let is : text ≡ literal_of (LOW +ℤ pos k) absolute = names.is_literal ∙ ap (λ z. literal_of z absolute) there in
+        true≢false (sym ((bytes_eq-Decides text (literal_of (LOW +ℤ pos k) absolute)).1 is) ∙ none k within)
+
+stamp_or_not : (text : List ℕ) → ((stamp : Stamp) × IsStamp text stamp) ⊎ ¬ ((stamp : Stamp) × IsStamp text stamp)
+stamp_or_not text =
+    elim (moment_or_not text true) [
+      | inl f ↦ inl (record { moment = record { 0 = f.0 }; absolute = true }, f.1)
+      | inr not_absolute ↦ elim (moment_or_not text false) [
+        | inl f ↦ inl (record { moment = record { 0 = f.0 }; absolute = false }, f.1)
+        | inr not_floating ↦ inr (λ x. neither not_absolute not_floating x.0.moment.0 x.0.absolute x.1)
+      ]
+    ]
+  where
+    neither : ((t : ℤ) → ¬ (Names text t true)) → ((t : ℤ) → ¬ (Names text t false)) → (t : ℤ) (absolute : Bool) → ¬ (Names text t absolute)
+    neither not_absolute not_floating t true names = not_absolute t names
+    neither not_absolute not_floating t false names = not_floating t names
+
+digits_or_not : (ds : List ℕ) → AllDigits 10 ds ⊎ ¬ (AllDigits 10 ds)
+digits_or_not [] = inl tt
+digits_or_not (d ∷ ds) =
+    elim (cases_lt (digit_value d) 10) [
+      | inl digit ↦ elim (digits_or_not ds) [
+        | inl all ↦ inl (digit, all)
+        | inr isnt ↦ inr (λ h. isnt h.1)
+      ]
+      | inr above ↦ inr (λ h. absurd (omega (arith, above, h.0)))
+    ]
+
+number_or_not : (least most : ℕ) (ds : List ℕ) → ((n : ℕ) × IsNumber least most ds n) ⊎ ¬ ((n : ℕ) × IsNumber least most ds n)
+number_or_not least most ds =
+    elim (cases_lt 0 (length ds)) [
+      | inr empty ↦ inr (λ x. absurd (omega (arith, empty, x.1.numeral.0)))
+      | inl some ↦ elim (digits_or_not ds) [
+        | inr isnt ↦ inr (λ x. isnt x.1.numeral.1)
+        | inl all ↦ elim (cases_lt (digits_value 10 ds) least) [
+          | inl low ↦ inr (λ x. absurd (omega (arith, low, x.1.value, x.1.in_range.0)))
+          | inr above ↦ elim (cases_lt most (digits_value 10 ds)) [
+            | inl high ↦ inr (λ x. absurd (omega (arith, high, x.1.value, x.1.in_range.1)))
+            | inr below ↦ inl (digits_value 10 ds, record { numeral = (some, all); value = refl; in_range = (above, below) })
+          ]
+        ]
+      ]
+    ]
+
+stamp_form : (text : List ℕ) → ((v : Value) × IsStampValue text v) ⊎ ¬ ((v : Value) × IsStampValue text v)
+stamp_form text = elim (stamp_or_not text) [ inl f ↦ inl (Stamped f.0, f.1) | inr none ↦ inr (λ x. by_value none x.0 x.1) ]
+  where
+    by_value : ¬ ((s : Stamp) × IsStamp text s) → (v : Value) → ¬ (IsStampValue text v)
+    by_value none (Stamped s) is = none (s, is)
+    by_value none v is = is
+
+number_form : (least most : ℕ) (text : List ℕ) → ((v : Value) × IsNumberValue least most text v) ⊎ ¬ ((v : Value) × IsNumberValue least most text v)
+number_form least most text = elim (number_or_not least most text) [ inl f ↦ inl (Number f.0, f.1) | inr none ↦ inr (λ x. by_value none x.0 x.1) ]
+  where
+    by_value : ¬ ((n : ℕ) × IsNumber least most text n) → (v : Value) → ¬ (IsNumberValue least most text v)
+    by_value none (Number n) is = none (n, is)
+    by_value none v is = is
+
+dir_form : (text : List ℕ) → ((v : Value) × IsDirValue text v) ⊎ ¬ ((v : Value) × IsDirValue text v)
+dir_form text =
+    elim (same_or_not text (codes "fore")) [
+      | inl fore ↦ inl (Directed Fore, fore)
+      | inr not_fore ↦ elim (same_or_not text (codes "back")) [
+        | inl back ↦ inl (Directed Back, back)
+        | inr not_back ↦ inr (λ x. by_value not_fore not_back x.0 x.1)
+      ]
+    ]
+  where
+    by_value : ¬ (text ≡ codes "fore") → ¬ (text ≡ codes "back") → (v : Value) → ¬ (IsDirValue text v)
+    by_value not_fore not_back (Directed Fore) is = not_fore is
+    by_value not_fore not_back (Directed Back) is = not_back is
+    by_value not_fore not_back v is = is
+
+value_or_not : (key : Key) (text : List ℕ) → ((v : Value) × IsValue key text v) ⊎ ¬ ((v : Value) × IsValue key text v)
+value_or_not At text = stamp_form text
+value_or_not From text = stamp_form text
+value_or_not To text = stamp_form text
+value_or_not DirOf text = dir_form text
+value_or_not Limit text = number_form 1 1_000_000 text
+value_or_not Budget text = number_form 1 1_000_000_000_000 text
+value_or_not Token text = inr (λ x. x.1)
+value_or_not Seed text = number_form 0 18_446_744_073_709_551_615 text
+
+order_or_not : (first last : Stamp) → AreInOrder first last ⊎ ¬ (AreInOrder first last)
+order_or_not first last = by_test (int_le first.moment.0 last.moment.0) refl (same_clock first.absolute last.absolute)
+  where
+    same_clock : (a b : Bool) → (a ≡ b) ⊎ ¬ (a ≡ b)
+    same_clock true true = inl refl
+    same_clock false false = inl refl
+    same_clock true false = inr true≢false
+    same_clock false true = inr (λ e. true≢false (sym e))
+
+    by_test : (b : Bool) → int_le first.moment.0 last.moment.0 ≡ b → ((first.absolute ≡ last.absolute) ⊎ ¬ (first.absolute ≡ last.absolute)) → AreInOrder first last ⊎ ¬ (AreInOrder first last)
+    by_test false e clocks = inr (λ x. let less = x.0 in absurd (grind (arith, ints)))
+    by_test true e (inl same) = inl (grind (arith, ints), same)
+    by_test true e (inr differs) = inr (λ x. differs x.1)
+
+module _ (apart : LiteralsTellMomentsApart) where
+  -- some word gives the key a moment that isn't as it is to be, or none does
+  IsOut : Key → (Stamp → Type 0) → List ℕ → Type 0
+  IsOut key Good word = (text : List ℕ) × (t : Stamp) × (word ≡ word_of key text) × IsStamp text t × ¬ (Good t)
+
+  out_or_not : (key : Key) (Good : Stamp → Type 0) → ((t : Stamp) → Good t ⊎ ¬ (Good t)) → (word : List ℕ) → IsOut key Good word ⊎ ¬ (IsOut key Good word)
+  unfolding IsOut
+  out_or_not key Good test word =
+      elim (gives_or_not key word) [
+        | inr none ↦ inr (λ x. none (x.0, x.2))
+        | inl g ↦ elim (stamp_or_not g.0) [
+          | inr none ↦ inr (λ x. none (x.1, subst (λ v. IsStamp v x.1) (one_value key key x.0 g.0 (sym x.2 ∙ g.1)) x.3))
+          | inl s ↦ elim (test s.0) [
+            | inr late ↦ inl (g.0, s.0, g.1, s.1, late)
+            | inl good ↦ inr (λ x. x.4 (subst Good (one_stamp apart g.0 s.0 x.1 s.1 (subst (λ v. IsStamp v x.1) (one_value key key x.0 g.0 (sym x.2 ∙ g.1)) x.3)) good))
+          ]
+        ]
+      ]
+
+  all_or_not : (before : List (List ℕ)) (key : Key) (Good : Stamp → Type 0) → ((t : Stamp) → Good t ⊎ ¬ (Good t)) → ((t : Stamp) → Says before key IsStamp t → Good t) ⊎ ¬ ((t : Stamp) → Says before key IsStamp t → Good t)
+  unfolding IsOut
+  all_or_not before key Good test =
+      elim (find_or_not (IsOut key Good) (out_or_not key Good test) before) [
+        | inl f ↦ inr (λ all. f.passes.4 (all f.passes.1 (record { value = f.passes.0; given = subst (Contains before) f.passes.2 f.inside; is = f.passes.3 })))
+        | inr none ↦ inl (λ t says. elim (test t) [ inl good ↦ good | inr late ↦ absurd (none (word_of key says.value) says.given (says.value, t, refl, says.is, late)) ])
+      ]
+
+  agrees_or_not : (before : List (List ℕ)) (key : Key) (v : Value) → Agrees before key v ⊎ ¬ (Agrees before key v)
+  agrees_or_not before From (Stamped first) = all_or_not before To (AreInOrder first) (order_or_not first)
+  agrees_or_not before To (Stamped last) = all_or_not before From (λ first. AreInOrder first last) (λ first. order_or_not first last)
+  agrees_or_not before key v = inl tt
+
+  form_or_not : (before : List (List ℕ)) (key : Key) (text : List ℕ) → InForm before key text ⊎ ¬ (InForm before key text)
+  form_or_not before key text =
+      elim (value_or_not key text) [
+        | inr isnt ↦ inr (λ x. isnt (x.value, x.is))
+        | inl x ↦ elim (agrees_or_not before key x.0) [
+          | inl agrees ↦ inl (record { value = x.0; is = x.1; agrees = agrees })
+          | inr differ ↦ inr (λ y. differ (subst (Agrees before key) (one_meaning apart key text y.value x.0 y.is x.1) y.agrees))
+        ]
+      ]
+
+  fits_or_not : (command : Command) (before : List (List ℕ)) (word : List ℕ) → Fits command before word ⊎ ¬ (Fits command before word)
+  fits_or_not command before word =
+      elim (setting_or_not word) [
+        | inr none ↦ inr (λ f. none f.key f.value f.word_is)
+        | inl s ↦ elim (find_or_not (λ k. k ≡ s.0) (λ k. key_or_not k s.0) (keys_of command)) [
+          | inr none ↦ inr (λ f. none s.0 (fits_by command before word s.0 s.1 s.2 f).0 refl)
+          | inl taken ↦ elim (lacking_or_not before s.0) [
+            | inr again ↦ inr (λ f. again (fits_by command before word s.0 s.1 s.2 f).1)
+            | inl lacks ↦ elim (form_or_not before s.0 s.1) [
+              | inr isnt ↦ inr (λ f. isnt (fits_by command before word s.0 s.1 s.2 f).2)
+              | inl form ↦ inl (record { key = s.0; value = s.1; word_is = s.2; of_command = subst (Contains (keys_of command)) taken.passes taken.inside; first = lacks; in_form = form })
+            ]
+          ]
+        ]
+      ]
+
+  fit_or_bad : (command : Command) (words : List (List ℕ)) (n : ℕ) → n ≤ length words → FitBelow command words n ⊎ ((m : ℕ) × IsFirstBad command words m)
+  fit_or_bad command words zero within = inl (λ before word after e less. absurd (omega (arith, less)))
+  fit_or_bad command words (suc n) within =
+      elim (fit_or_bad command words n (omega (arith, within))) [
+        | inr b ↦ inr b
+        | inl fit ↦ one_more fit
+      ]
+    where
+      word : List ℕ
+      word = get_or words n []
+
+      cut : words ≡ take n words ++ word ∷ drop (suc n) words
+      cut = sym (take-append-drop n words) ∙ ap (λ ys. take n words ++ ys) (drop-cons words n [] (omega (arith, within)))
+
+      size : length (take n words) ≡ n
+      size = length-take-le n words (omega (arith, within))
+
+      one_more : FitBelow command words n → FitBelow command words (suc n) ⊎ ((m : ℕ) × IsFirstBad command words m)
+      one_more fit =
+          elim (fits_or_not command (take n words) word) [
+            | inl fits ↦ inl (subst (FitBelow command words) (let e : n + 1 ≡ suc n = omega arith in e) (fits_one_more command words (take n words) (drop (suc n) words) word n cut size fit fits))
+            | inr isnt ↦ inr (n + 1, unfit_first command words (take n words) (drop (suc n) words) word n cut size fit isnt)
+          ]
+
+  good_or_bad : (command : Command) (words : List (List ℕ)) → AreGood command words ⊎ ((m : ℕ) × IsFirstBad command words m)
+  good_or_bad command words =
+      elim (fit_or_bad command words (length words) (omega arith)) [
+        | inr b ↦ inr b
+        | inl fit ↦ elim (find_or_not (Lacks words) (lacking_or_not words) (required command)) [
+          | inl f ↦ inr (length words + 1, missing_first command words f.element fit f.inside f.passes)
+          | inr none ↦ inl (all_good command words fit none)
+        ]
+      ]
+
+  -- the values in good words are in form
+  good_value : (command : Command) (later : List (List ℕ)) (key : Key) (value : List ℕ) → AreGood command later → Gives later key value → (v : Value) × IsValue key value v
+  good_value command later key value good (k, within, is) =
+      elim (value_or_not key value) [
+        | inl form ↦ form
+        | inr isnt ↦ absurd (good (suc (length (take k later)))
+            (unfit (take k later) (word_of key value) (drop (suc k) later) (cut_at later k (word_of key value) within is)
+            (λ f. let x = (fits_by command (take k later) (word_of key value) key value refl f).2 in isnt (x.value, x.is))))
+      ]
+
+  budget_form : (text : List ℕ) (v : Value) → IsValue Budget text v → (n : ℕ) × IsBudget text n
+  budget_form text (Number n) is = (n, is)
+  budget_form text v is = absurd is
+
+  at_form : (text : List ℕ) (v : Value) → IsValue At text v → (s : Stamp) × IsStamp text s
+  at_form text (Stamped s) is = (s, is)
+  at_form text v is = absurd is
+
+  good_budget : (command : Command) (later : List (List ℕ)) → AreGood command later → (n : ℕ) × SaysBudget later n
+  good_budget command later good =
+      elim (given_or_lacking later Budget) [
+        | inl g ↦ (let form : (n : ℕ) × IsBudget g.0 n = let x = good_value command later Budget g.0 good g.1 in budget_form g.0 x.0 x.1 in
+            (form.0, given form.0 (record { value = g.0; given = g.1; is = form.1 })))
+        | inr lacks ↦ (100_000_000, by_default lacks)
+      ]
+
+  good_near : (side : Neighbour) (later : List (List ℕ)) → AreGood (command_of side) later → (q : Query) × Asks (name_of (command_of side) ∷ later) q
+  good_near side later good =
+      elim (given_or_lacking later At) [
+        | inr lacks ↦ absurd (good (suc (length later)) (missing At (needed_at side) lacks))
+        | inl g ↦ (let form : (stamp : Stamp) × IsStamp g.0 stamp = let x = good_value (command_of side) later At g.0 good g.1 in at_form g.0 x.0 x.1 in
+            let budget = good_budget (command_of side) later good in
+            (Near side form.0 budget.0, near side later form.0 budget.0 refl good (record { value = g.0; given = g.1; is = form.1 }) budget.1))
+      ]
+
+  good_query : (command : Command) (later : List (List ℕ)) → is_built command ≡ true → AreGood command later → (q : Query) × Asks (name_of command ∷ later) q
+  good_query Next later built good = good_near neighbours.Next later good
+  good_query Show later built good = (Showing, show later refl good)
+  good_query Previous later built good = absurd (true≢false (sym built))
+  good_query Current later built good = absurd (true≢false (sym built))
+  good_query Closest later built good = absurd (true≢false (sym built))
+  good_query ContainsOf later built good = absurd (true≢false (sym built))
+  good_query Walk later built good = absurd (true≢false (sym built))
+  good_query Resume later built good = absurd (true≢false (sym built))
+  good_query Min later built good = absurd (true≢false (sym built))
+  good_query Max later built good = absurd (true≢false (sym built))
+  good_query Empty later built good = absurd (true≢false (sym built))
+  good_query Count later built good = absurd (true≢false (sym built))
+  good_query Duration later built good = absurd (true≢false (sym built))
+  good_query Audit later built good = absurd (true≢false (sym built))
+  good_query ContainsSet later built good = absurd (true≢false (sym built))
+  good_query Intersects later built good = absurd (true≢false (sym built))
+  good_query Intersected later built good = absurd (true≢false (sym built))
+  good_query Load later built good = absurd (true≢false (sym built))
+
+  named_answer : (command : Command) (later : List (List ℕ)) (b : Bool) → is_built command ≡ b → (answer : Result Query WordsFault) × AreRead (name_of command ∷ later) answer
+  named_answer command later false e = (Err Unbuilt, unbuilt command later refl e)
+  named_answer command later true e =
+      elim (good_or_bad command later) [
+        | inl good ↦ (let asked = good_query command later e good in (Ok asked.0, asked.1))
+        | inr b ↦ (Err (Bad b.0), bad command later b.0 refl e b.1)
+      ]
+
+  first_of : List (List ℕ) → List ℕ
+  first_of [] = []
+  first_of (x ∷ xs) = x
+
+  pub words_are_read : WordsAreRead
+  words_are_read [] = (Err (Bad 0), no_command (λ c l e. absurd cc))
+  words_are_read (first ∷ later) =
+      elim (command_or_not first) [
+        | inl c ↦ subst (λ f. (answer : Result Query WordsFault) × AreRead (f ∷ later) answer) (sym c.1) (named_answer c.0 later (is_built c.0) refl)
+        | inr none ↦ (Err (Bad 0), no_command (λ c l e. none c cc))
+      ]

@@ -1,0 +1,67 @@
+//! Rules that have a fault, as lines tell them.
+
+ghost use Rattle.std.specs.Prelude.{◌≡◌, ◌≤◌, ◌+◌, ◌++◌, length};
+ghost use Rattle.report_text.specs.Parts.{part_name, rule_fault_text};
+
+use crate::lines::Line;
+use rule_core::{Part, RuleFault};
+
+/// The name of a key, of a frequency or of a part of RFC 5545 (3.3.10), as it is written.
+fn part_name(part: Part) -> &'static [u8]
+    ensures text { result.now ≡ part_name part }
+    ensures short { length result.now ≤ 10 }
+{
+    match part {
+        Part::Yearly => b"yearly",
+        Part::Monthly => b"monthly",
+        Part::Weekly => b"weekly",
+        Part::Daily => b"daily",
+        Part::Hourly => b"hourly",
+        Part::Minutely => b"minutely",
+        Part::Secondly => b"secondly",
+        Part::Months => b"months",
+        Part::Weeks => b"weeks",
+        Part::Days => b"days",
+        Part::Hours => b"hours",
+        Part::Minutes => b"minutes",
+        Part::Seconds => b"seconds",
+        Part::Interval => b"interval",
+        Part::Start => b"start",
+        Part::WeekStart => b"week_start",
+        Part::Freq => b"FREQ",
+        Part::Dtstart => b"DTSTART",
+        Part::Until => b"UNTIL",
+        Part::Count => b"COUNT",
+        Part::ByMonth => b"BYMONTH",
+        Part::ByWeekNo => b"BYWEEKNO",
+        Part::ByYearDay => b"BYYEARDAY",
+        Part::ByMonthDay => b"BYMONTHDAY",
+        Part::ByDay => b"BYDAY",
+        Part::ByHour => b"BYHOUR",
+        Part::ByMinute => b"BYMINUTE",
+        Part::BySecond => b"BYSECOND",
+        Part::BySetPos => b"BYSETPOS",
+        Part::Wkst => b"WKST",
+    }
+}
+
+/// Which fault the rule has, with its keys.
+pub(crate) fn put_rule_fault(line: &mut Line, fault: RuleFault)
+    requires room { length line.old + 25 ≤ 128 }
+    ensures bytes { line.new ≡ line.old ++ rule_fault_text fault }
+    ensures len { length line.new ≤ length line.old + 25 }
+{
+    match fault {
+        RuleFault::BadMix(first, second) => {
+            line.put(b"mix ");
+            line.put(part_name(first));
+            line.put(b" ");
+            line.put(part_name(second));
+        }
+        RuleFault::BadValue(part) => {
+            line.put(b"value ");
+            line.put(part_name(part));
+        }
+        RuleFault::BadInterval => line.put(b"interval"),
+    }
+}

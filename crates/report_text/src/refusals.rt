@@ -1,0 +1,105 @@
+//! The lines that refuse words or a text.
+
+ghost use Rattle.std.specs.Prelude.{◌≡◌, ◌≤◌, ◌+◌, ◌++◌, length};
+ghost use Rattle.report_text.specs.Refusals.{IsPrintable, refusal_line, refusal_text, sort_text};
+
+use crate::lines::Line;
+use crate::parts::put_rule_fault;
+use crate::pieces::{put_moment, put_number};
+use expr_tree::SortFault;
+use moment_core::{Clock, Moment};
+use rule_core::RuleFault;
+
+/// Why a query isn't answered. The first cause of this order decides.
+#[derive(Clone, Copy, Debug, PartialEq, Eq)]
+pub enum Refusal {
+    /// The word of this number is bad, or one is missing.
+    Words(usize),
+    /// A command or a call that isn't built.
+    Unbuilt,
+    /// The text has too many bytes.
+    Long,
+    /// No token begins at the byte.
+    Token(usize),
+    /// The tokens spell no program.
+    Syntax,
+    /// A literal names no moment, or a span has no position.
+    Moment(usize),
+    /// A rule by fields is none, by its fault.
+    Rule(RuleFault),
+    /// An expression has no sort.
+    Sort(SortFault),
+    /// The number of expressions isn't the command's.
+    Two,
+    /// A word's moment stands on another clock than the expressions.
+    Clock,
+    /// A rule with a count has no last member within so many candidates, the last of them at the moment.
+    Settle { passed: u64, at: Moment },
+}
+
+fn sort_text(fault: SortFault) -> &'static [u8]
+    ensures text { result.now ≡ sort_text fault }
+    ensures short { length result.now ≤ 6 }
+{
+    match fault {
+        SortFault::Nodes => b"nodes",
+        SortFault::Depth => b"depth",
+        SortFault::Event => b"event",
+        SortFault::Kind => b"kind",
+        SortFault::Clock => b"clock",
+        SortFault::Reach => b"reach",
+    }
+}
+
+fn put_refusal(line: &mut Line, refusal: Refusal)
+    requires room { length line.old + 60 ≤ 128 }
+    requires printable { IsPrintable refusal }
+    ensures bytes { line.new ≡ line.old ++ refusal_text refusal }
+    ensures len { length line.new ≤ length line.old + 60 }
+{
+    match refusal {
+        Refusal::Words(n) => {
+            line.put(b"words ");
+            put_number(line, n as u64);
+        }
+        Refusal::Unbuilt => line.put(b"unbuilt"),
+        Refusal::Long => line.put(b"long"),
+        Refusal::Token(byte) => {
+            line.put(b"token ");
+            put_number(line, byte as u64);
+        }
+        Refusal::Syntax => line.put(b"syntax"),
+        Refusal::Moment(byte) => {
+            line.put(b"moment ");
+            put_number(line, byte as u64);
+        }
+        Refusal::Rule(fault) => {
+            line.put(b"rule ");
+            put_rule_fault(line, fault);
+        }
+        Refusal::Sort(fault) => {
+            line.put(b"sort ");
+            line.put(sort_text(fault));
+        }
+        Refusal::Two => line.put(b"two"),
+        Refusal::Clock => line.put(b"clock"),
+        Refusal::Settle { passed, at } => {
+            line.put(b"settle ");
+            put_number(line, passed);
+            line.put(b" ");
+            put_moment(line, at, Clock::Floating);
+        }
+    }
+}
+
+/// The line of a refusal.
+pub fn line_refusal(refusal: Refusal) -> Line
+    requires { IsPrintable refusal }
+    ensures { result ≡ refusal_line refusal }
+{
+    let mut line = Line::new();
+    line.put(b"refused ");
+    put_refusal(&mut line, refusal);
+    line.end();
+    line
+}
