@@ -1,18 +1,11 @@
 -- Reading the front of a text.
-use Rattle.std.proofs.Common.{◌≡◌, ◌≤◌, ◌++◌, ℕ, List, [], length, arith, sym, ◌∙◌, Option, Some, None}
+use Rattle.std.proofs.Common.{◌≡◌, ◌≤◌, ℕ, List, [], length, arith, sym, ◌∙◌, Option, Some, None}
 use Rattle.std.proofs.lemmas.Grind.{common_steps}
 use Rattle.std.specs.Io.KnownBytes.{Consumes, IsAtEnd}
-use Rattle.set_query.specs.Effects.{ReadsFront}
-
--- one read after another
-pub Consumes-more : (a b c : Option (List ℕ)) (xs ys : List ℕ) → Consumes a b xs → Consumes b c ys → Consumes a c (xs ++ ys)
-Consumes-more None b c xs ys h k = tt
-Consumes-more (Some a) None c xs ys h k = absurd h
-Consumes-more (Some a) (Some b) None xs ys h k = absurd k
-Consumes-more (Some a) (Some b) (Some c) xs ys h k = grind (arith, common_steps)
+use Rattle.set_query.specs.Effects.{IsFront}
 
 -- the source came to its end
-pub ended : (a b c : Option (List ℕ)) (bytes : List ℕ) (room : ℕ) → Consumes a b bytes → IsAtEnd b → Consumes b c [] → length bytes ≤ room → ReadsFront room a c bytes
+pub ended : (a b c : Option (List ℕ)) (bytes : List ℕ) (room : ℕ) → Consumes a b bytes → IsAtEnd b → Consumes b c [] → length bytes ≤ room → IsFront room a c bytes
 ended None b c bytes room h e k l = tt
 ended (Some text) None c bytes room h e k l = absurd h
 ended (Some text) (Some rest) None bytes room h e k l = absurd k
@@ -22,7 +15,7 @@ ended (Some text) (Some rest) (Some last) bytes room h e k l =
     (grind (arith, common_steps), grind (arith, common_steps))
 
 -- or the room was filled
-pub filled : (a b : Option (List ℕ)) (bytes : List ℕ) (room : ℕ) → Consumes a b bytes → length bytes ≡ room → ReadsFront room a b bytes
+pub filled : (a b : Option (List ℕ)) (bytes : List ℕ) (room : ℕ) → Consumes a b bytes → length bytes ≡ room → IsFront room a b bytes
 filled None b bytes room h l = tt
 filled (Some text) None bytes room h l = absurd h
 filled (Some text) (Some rest) bytes room h l = (grind (arith, common_steps), grind (arith, common_steps))

@@ -1,18 +1,20 @@
 -- The laws of outcomes.
-use Rattle.std.specs.Prelude.{◌≡◌, ◌≢◌, ℕ, List, Result}
-use Rattle.expr_text.specs.Accepted.{IsAnswer, IsTold}
-use Rattle.expr_text.specs.declared.fault.TextFault.{TextFault}
-use Rattle.expr_tree.specs.declared.tree.Program.{Program}
+use Rattle.std.specs.Prelude.{◌≡◌, ◌≢◌, ℕ, List}
+use Rattle.stored_pair.specs.Meanings.{Entries}
 use Rattle.set_query.specs.Report.{Outcome, IsOutcome}
 
--- any words have an outcome over each text that is read, or has a fault
+-- any words have an outcome over each text
 abbrev pub OutcomesExist : Type 0
-OutcomesExist =
-    (words : List (List ℕ)) (text : List ℕ) (read : Result Program TextFault) → IsAnswer text read → IsTold read
-    → (o : Outcome) × IsOutcome words text o
+OutcomesExist = (entries : Entries) (words : List (List ℕ)) (text : List ℕ) → (o : Outcome) × IsOutcome entries words text o
 
 -- no words and text have two outcomes, stops aside
 abbrev pub OutcomesAreUnique : Type 0
 OutcomesAreUnique =
-    (words : List (List ℕ)) (text : List ℕ) (a b : Outcome) → IsOutcome words text a → IsOutcome words text b
+    (entries : Entries) (words : List (List ℕ)) (text : List ℕ) (a b : Outcome) → IsOutcome entries words text a → IsOutcome entries words text b
     → a.status ≢ 3 → b.status ≢ 3 → a ≡ b
+
+-- a refusal is the one outcome: where there is one there is no stop either
+abbrev pub RefusalsAreAlone : Type 0
+RefusalsAreAlone =
+    (entries : Entries) (words : List (List ℕ)) (text : List ℕ) (a b : Outcome) → IsOutcome entries words text a → IsOutcome entries words text b
+    → a.status ≡ 2 → a ≡ b

@@ -1,6 +1,6 @@
 pub mod Effects
 pub mod Laws
-pub mod Members
+pub mod Preparing
+pub mod Reading
 pub mod Refusals
 pub mod Report
-pub mod Texts

@@ -1,13 +1,21 @@
 //! The laws of outcomes, for proofs that cite them.
 
-ghost use Rattle.set_query.specs.Laws.{OutcomesAreUnique, OutcomesExist};
+ghost use Rattle.set_query.specs.Laws.{OutcomesAreUnique, OutcomesExist, RefusalsAreAlone};
 
-use query_words::answer_laws;
+use cert_audit::tree_frame_laws;
+use expr_text::reading_laws;
+use near_search::{endless_laws, next_laws};
+use query_words::words_laws;
 
-/// Words have an outcome over each text that is read as one of the language or has a fault, and one alone but for stops.
+/// Words have an outcome over each text, and one alone but for stops; a refusal is alone.
 pub fn outcome_laws()
     ensures exist { OutcomesExist }
     ensures unique { OutcomesAreUnique }
+    ensures alone { RefusalsAreAlone }
 {
-    answer_laws();
+    words_laws();
+    reading_laws();
+    tree_frame_laws();
+    endless_laws();
+    next_laws();
 }

@@ -3,19 +3,19 @@
 
 ghost use Rattle.std.specs.Prelude.{◌≡◌, ◌<◌};
 
+mod help;
 mod laws;
-mod neighbours;
+mod preparing;
 mod query;
 mod reading;
 mod refusals;
-mod search;
-mod show;
-mod texts;
+mod reporting;
+mod searching;
 mod writing;
 
 use moment_core::Steps;
 use outside_core::{StdSink, StdSource};
-use query_words::WordsFault;
+use report_text::Refusal;
 use std::marker::Brand;
 use std::process::ExitCode;
 use std::sync::ledger::{Blank, Ledger};
@@ -31,8 +31,8 @@ fn words_of(rt: &HostRuntime) -> io::Result<Vec<String>> {
     Ok(words)
 }
 
-/// Answers the query over the standard streams. Words that are no text are refused as a first word that is no command
-/// is, and without memory for them the status is 6.
+/// Answers the query over the standard streams, or writes the help or the version. Words that are no text are refused as a
+/// first word that is no command is, and without memory for them the status is 6.
 fn answer<L: Ledger>(rt: &HostRuntime, blank: Blank) -> u8
     requires name { blank.name ≡ L.name }
     requires parts { blank.parts ≡ L.parts }
@@ -44,8 +44,11 @@ fn answer<L: Ledger>(rt: &HostRuntime, blank: Blank) -> u8
     let words = match words_of(rt) {
         Ok(words) => words,
         Err(e) if e.kind() == io::ErrorKind::OutOfMemory => return 6,
-        Err(_) => return refusals::refuse_words(WordsFault::Bad(0), &mut sink),
+        Err(_) => return refusals::refuse(Refusal::Words(0), &mut sink),
     };
+    if let Some(text) = help::text_of(&words) {
+        return writing::put(&mut sink, text.as_bytes(), 0);
+    }
     let book = Book::empty(alloc);
     let mut steps = Steps::<L>::new(blank);
     query::run(alloc, &words, &book, &mut source, &mut sink, &mut steps)

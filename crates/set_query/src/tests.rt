@@ -1,17 +1,20 @@
 ghost use Rattle.std.specs.Prelude.{◌≡◌, ◌⊎◌, ◌<◌, Some, map};
 ghost use Rattle.std.specs.String.{string_bytes};
-ghost use Rattle.outside_core.specs.Memory.{told};
+ghost use Rattle.stored_pair.specs.Meanings.{nothing};
 ghost use Rattle.set_query.specs.Effects.{Answers};
 
+use crate::help::{HELP, VERSION, text_of};
 use crate::query::run;
 use moment_core::Steps;
-use outside_core::{MemSink, MemSource, SureSink, SureSource};
+use outside_core::{Got, MemSink, MemSource, Sink, Source, SureSink, SureSource};
 use std::alloc::{AllocError, Global};
 use std::marker::Brand;
 use std::process::Abort;
 use std::sync::ledger::{Blank, Ledger};
 use std::test::Fail;
 use stored_pair::Book;
+
+mod rules;
 
 fn words_of(alloc: Global, line: &str) -> Result<Vec<String>, AllocError> {
     let mut words = Vec::new(alloc);
@@ -21,7 +24,8 @@ fn words_of(alloc: Global, line: &str) -> Result<Vec<String>, AllocError> {
     Ok(words)
 }
 
-// Without faults the status and the line are those of the words and the text, unless memory runs out.
+// Without faults the status and the line are those of the words and the text, over a book without entries, unless memory
+// runs out.
 fn run_sure<L: Ledger>(
     alloc: Global,
     words: &[String],
@@ -32,7 +36,8 @@ fn run_sure<L: Ledger>(
     requires name { blank.name ≡ L.name }
     requires parts { blank.parts ≡ L.parts }
     requires some { 0 < blank.parts }
-    ensures { Answers (map string_bytes words.now) (Some source.old) (told sink.old) (told sink.new) result ⊎ (result ≡ 6) }
+    ensures { Answers ⟦<SureSink as Sink>⟧ sink.old sink.new (λ name. nothing)
+        (map string_bytes words.now) (Some source.old) result ⊎ (result ≡ 6) }
 {
     let book = Book::empty(alloc);
     let mut steps = Steps::<L>::new(blank);
@@ -70,9 +75,10 @@ fn answer_with_faults(
 
 // python3's dates give the answers; years below 1 are moved by 12,000 years, which are 30 times 146,097 days.
 #[test]
-fn the_next_day_of_a_month_is_written_or_edge_or_a_refusal(rt: HostRuntime) -> Result<(), Fail> {
+fn the_next_day_of_a_month_is_written_or_edge_or_a_stop_or_a_refusal(
+    rt: HostRuntime,
+) -> Result<(), Fail> {
     let alloc = rt.alloc();
-    let refused = "refused unbuilt\n";
     for (line, text, status, written) in [
         (
             "next at=2024-02-10T00:00:00",
@@ -168,36 +174,29 @@ fn the_next_day_of_a_month_is_written_or_edge_or_a_refusal(rt: HostRuntime) -> R
             "refused words 1\n",
         ),
         // other texts
-        ("next at=2024-01-01T00:00:00", "monthly(days=0)", 2, refused),
         (
             "next at=2024-01-01T00:00:00",
-            "monthly(days=01)",
+            "monthly(days=0)",
             2,
-            refused,
+            "refused rule value days\n",
         ),
         (
             "next at=2024-01-01T00:00:00",
             "monthly(days=32)",
             2,
-            refused,
+            "refused rule value days\n",
         ),
         (
             "next at=2024-01-01T00:00:00",
-            "monthly(days=29)\n\n",
-            2,
-            refused,
+            "monthly(days=01)",
+            0,
+            "2024-02-01T00:00:00\n",
         ),
         (
             "next at=2024-01-01T00:00:00",
-            "monthly(days=29)                 ",
-            2,
-            refused,
-        ),
-        (
-            "next at=2024-01-01T00:00:00",
-            "monthly(days=29)                  ",
-            2,
-            refused,
+            "\tmonthly( days = 29 )\n\n",
+            0,
+            "2024-01-29T00:00:00\n",
         ),
         ("next at=2024-01-01T00:00:00", "", 2, "refused syntax\n"),
         // other words
@@ -205,7 +204,7 @@ fn the_next_day_of_a_month_is_written_or_edge_or_a_refusal(rt: HostRuntime) -> R
             "next at=2024-01-01T00:00:00Z",
             "monthly(days=29)",
             2,
-            refused,
+            "refused clock\n",
         ),
         (
             "next at=2024-02-30T00:00:00",
@@ -219,15 +218,23 @@ fn the_next_day_of_a_month_is_written_or_edge_or_a_refusal(rt: HostRuntime) -> R
             2,
             "refused words 0\n",
         ),
+        // each day is a candidate, and 27 are passed before the 29th
         (
-            "next at=2024-01-01T00:00:00 budget=1",
+            "next at=2024-01-01T00:00:00 budget=27",
+            "monthly(days=29)",
+            3,
+            "budget 3412800000 0\n",
+        ),
+        (
+            "next at=2024-01-01T00:00:00 budget=28",
             "monthly(days=29)",
             0,
             "2024-01-29T00:00:00\n",
         ),
         ("next", "monthly(days=29)", 2, "refused words 1\n"),
         ("", "monthly(days=29)", 2, "refused words 0\n"),
-        ("walk", "monthly(days=29)", 2, refused),
+        ("--help", "monthly(days=29)", 2, "refused words 0\n"),
+        ("walk", "monthly(days=29)", 2, "refused unbuilt\n"),
     ] {
         let text = Vec::from_slice(alloc, text.as_bytes())?;
         let mut source = SureSource::new(text);
@@ -263,6 +270,79 @@ fn a_failed_read_is_status_4_and_a_failed_write_status_5(rt: HostRuntime) -> Res
         assert_eq!(rt; answered, status, "at {line}");
         assert!(rt; sink.taken() == b"".as_slice(), "at {line}");
     }
+    Ok(())
+}
+
+// A second write would fail.
+#[test]
+fn each_line_goes_out_by_one_write(rt: HostRuntime) -> Result<(), Fail> {
+    let alloc = rt.alloc();
+    for (line, text, status, written) in [
+        (
+            "next at=2024-02-10T00:00:00",
+            "!{2024-02-20T00:00:00}",
+            0u8,
+            "(2024-02-20T00:00:00 .. inf)\n",
+        ),
+        ("show", "empty()|span()", 0, "empty() | span()\n"),
+        ("show", "empty() @", 2, "refused token 8\n"),
+        ("show x", "", 2, "refused words 1\n"),
+    ] {
+        let words = words_of(alloc, line)?;
+        let mut source = MemSource::new(Vec::from_slice(alloc, text.as_bytes())?, Vec::new(alloc));
+        let mut sink = MemSink::new(alloc, 64, Vec::from_slice(alloc, &[1u64])?)?;
+        let answered = answer_with_faults(alloc, &words, &mut source, &mut sink);
+        assert_eq!(rt; answered, status, "at {line}");
+        assert!(rt; sink.taken() == written.as_bytes(), "at {line}");
+    }
+    Ok(())
+}
+
+// A read takes 4,096 bytes at most. Where all is read, one read more would fail; else what wasn't read is still there.
+#[test]
+fn nothing_is_read_after_the_end_or_a_failed_read(rt: HostRuntime) -> Result<(), Fail> {
+    let alloc = rt.alloc();
+    for (spaces, failed_read, status, left) in [
+        (0usize, 2u64, 0u8, 0usize),
+        (8_185, 3, 0, 0),
+        (65_531, 99, 2, 1),
+        (0, 0, 4, 7),
+        (0, 1, 4, 0),
+        (4_993, 1, 4, 904),
+    ] {
+        let words = words_of(alloc, "show")?;
+        let text = repeated(alloc, b" ", spaces, b"empty()")?;
+        let mut source = MemSource::new(text, Vec::from_slice(alloc, &[failed_read])?);
+        let mut sink = MemSink::new(alloc, 64, Vec::new(alloc))?;
+        let answered = answer_with_faults(alloc, &words, &mut source, &mut sink);
+        assert_eq!(rt; answered, status, "after {spaces} spaces");
+        let mut buf = [0u8; 1024];
+        let got = if left == 0 {
+            Got::End
+        } else {
+            Got::Bytes(left)
+        };
+        if answered == 4 || left != 0 {
+            assert_eq!(rt; source.read(&mut buf), got, "after {spaces} spaces");
+        }
+    }
+    Ok(())
+}
+
+#[test]
+fn the_help_fits_a_screen_and_is_no_query(rt: HostRuntime) -> Result<(), Fail> {
+    let alloc = rt.alloc();
+    for (line, text) in [
+        ("--help", Some(HELP)),
+        ("--version", Some(VERSION)),
+        ("--help show", None),
+        ("show", None),
+        ("", None),
+    ] {
+        assert_eq!(rt; text_of(&words_of(alloc, line)?), text, "at {line}");
+    }
+    assert!(rt; HELP.lines().count() <= 40);
+    assert!(rt; HELP.lines().all(|line| line.len() <= 80));
     Ok(())
 }
 
@@ -310,7 +390,21 @@ fn texts_are_shown_or_refused(rt: HostRuntime) -> Result<(), Fail> {
         ),
         ("empty() @", 2, "refused token 8\n"),
         ("", 2, "refused syntax\n"),
-        ("daily( )", 2, "refused unbuilt\n"),
+        ("daily( )", 0, "daily()\n"),
+        // the calls that aren't built
+        (
+            "rrule(\"FREQ=DAILY\", 2024-01-01T00:00:00)",
+            2,
+            "refused unbuilt\n",
+        ),
+        ("event(\"fortnight\")", 2, "refused unbuilt\n"),
+        ("during(empty(), 60)", 2, "refused unbuilt\n"),
+        ("pairs(empty(), empty())", 2, "refused unbuilt\n"),
+        ("starts(span())", 2, "refused unbuilt\n"),
+        ("ends(span())", 2, "refused unbuilt\n"),
+        ("shift(empty(), 60)", 2, "refused unbuilt\n"),
+        ("zoned(empty(), \"UTC0\")", 2, "refused unbuilt\n"),
+        ("zoned_first(empty(), \"UTC0\")", 2, "refused unbuilt\n"),
     ] {
         shows(&rt, alloc, text.as_bytes(), status, line)?;
     }

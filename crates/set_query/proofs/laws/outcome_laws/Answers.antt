@@ -1,8 +1,21 @@
-use Rattle.set_query.proofs.OutcomeLaws.{outcomes_are_unique, outcomes_exist}
+use Rattle.set_query.proofs.OutcomeLaws.{Reads, outcomes_are_unique, outcomes_exist, refusals_are_alone}
 use Rattle.set_query.proofs.laws.outcome_laws.Goals as goal
+use Rattle.set_query.proofs.laws.outcome_laws.Goals.{After-next_laws}
+
+reads : (c : After-next_laws) → Reads
+reads c = record {
+  exist = c.reading_laws.ensures.exist;
+  unique = c.reading_laws.ensures.unique;
+  well_formed = c.reading_laws.ensures.well_formed;
+  sorted = c.reading_laws.ensures.sorted;
+  lawful = c.tree_frame_laws.ensures.lawful;
+}
 
 pub returns-clause-exist : goal.returns-clause-exist
-returns-clause-exist c = outcomes_exist c.answer_laws.ensures.exist
+returns-clause-exist c = outcomes_exist (reads c) c.words_laws.ensures.exist c.next_laws.ensures.exist c.endless_laws.ensures
 
 pub returns-clause-unique : goal.returns-clause-unique
-returns-clause-unique c = outcomes_are_unique c.answer_laws.ensures.unique
+returns-clause-unique c = outcomes_are_unique (reads c) c.words_laws.ensures.unique c.next_laws.ensures.unique
+
+pub returns-clause-alone : goal.returns-clause-alone
+returns-clause-alone c = refusals_are_alone (reads c) c.words_laws.ensures.unique c.next_laws.ensures.unique

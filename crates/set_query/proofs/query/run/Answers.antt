@@ -1,80 +1,73 @@
 -- Each clause follows from one fact for each way through the words: that the query was answered over the text, or the words refused.
-use Rattle.std.proofs.Common.{◌≡◌, map, Ok, Err}
+use Rattle.std.proofs.Common.{map, Ok, Err}
 use Rattle.std.specs.String.{string_bytes}
+use Rattle.stored_pair.specs.Names.{entries_of}
 use Rattle.set_query.specs.Effects.{ReadsFront}
-use Rattle.set_query.proofs.OutcomeLemmas.{Ends, refused-ends, replied-ends, ends_ample, ends_complete, ends_done, ends_ended, ends_memory, ends_read, ends_sink_fault, ends_statuses}
+use Rattle.set_query.specs.declared.reading.TheConstants.{ROOM}
+use Rattle.set_query.proofs.OutcomeLemmas.{Ends, Reads, refused-ends, replied-ends, ends_ample, ends_complete, ends_done, ends_ended, ends_memory, ends_read, ends_sink_fault, ends_statuses}
 use Rattle.set_query.proofs.query.run.Given as given
 use Rattle.set_query.proofs.query.run.Goals as goal
-use Rattle.set_query.proofs.query.run.Goals.{After-drop-text, After-refuse_words}
+use Rattle.set_query.proofs.query.run.Goals.{After-drop-text, After-refuse}
 
-front : (g : given.Over) (c : After-drop-text g) → ReadsFront 65_537 (g.S.Source.left c.args.source.now) (g.S.Source.left c.read_text.new.source) c.deref.result.now
+front : (g : given.Over) (c : After-drop-text g) → ReadsFront ROOM g.S.Source c.args.source.now c.read_text.new.source c.deref.result.now
 front g c = rw c.deref.ensures.value c.in-Ok-read_text.ensures.front
 
-replied : (g : given.Over) (c : After-drop-text g) → Ends (c.reply.new.sink ≡ c.args.sink.now) (map string_bytes c.args.words.now) (g.S.Source.left c.args.source.now) (g.K.Sink.taken c.args.sink.now) (g.K.Sink.taken c.reply.new.sink) (g.K.Sink.faults c.args.sink.now) (g.K.Sink.faults c.reply.new.sink) c.reply.result
-replied g c =
-    replied-ends (map string_bytes c.args.words.now) (g.S.Source.left c.args.source.now) (g.S.Source.left c.read_text.new.source)
-    (g.K.Sink.taken c.args.sink.now) (g.K.Sink.taken c.reply.new.sink) (g.K.Sink.faults c.args.sink.now) (g.K.Sink.faults c.reply.new.sink)
-    c.reply.result c.in-Ok.query c.deref.result.now c.in-Ok.ensures (front g c) c.reply.ensures.outcome
+reads : (g : given.Over) (c : After-drop-text g) → Reads
+reads g c = record { unique = c.reading_laws.ensures.unique; long = c.reading_laws.ensures.long }
 
-refused : (g : given.Over) (c : After-refuse_words g) → Ends ⊥ (map string_bytes c.args.words.now) (g.S.Source.left c.args.source.now) (g.K.Sink.taken c.args.sink.now) (g.K.Sink.taken c.refuse_words.new.sink) (g.K.Sink.faults c.args.sink.now) (g.K.Sink.faults c.refuse_words.new.sink) c.refuse_words.result
-refused g c =
-    refused-ends (map string_bytes c.args.words.now) (g.S.Source.left c.args.source.now)
-    (g.K.Sink.taken c.args.sink.now) (g.K.Sink.taken c.refuse_words.new.sink) (g.K.Sink.faults c.args.sink.now) (g.K.Sink.faults c.refuse_words.new.sink)
-    c.refuse_words.result c.in-Err.fault c.in-Err.ensures c.refuse_words.ensures
+replied : (g : given.Over) (c : After-drop-text g) → Ends g.K.Sink c.args.sink.now c.reply.new.sink (entries_of c.args.book.now) (map string_bytes c.args.words.now) (g.S.Source.left c.args.source.now) c.reply.result
+replied g c = replied-ends _ _ _ _ _ _ _ (reads g c) (g.S.Source.left c.read_text.new.source) c.in-Ok.query c.deref.result.now c.in-Ok.ensures (front g c) c.reply.ensures.outcome
+
+refused : (g : given.Over) (c : After-refuse g) → Ends g.K.Sink c.args.sink.now c.refuse.new.sink (entries_of c.args.book.now) (map string_bytes c.args.words.now) (g.S.Source.left c.args.source.now) c.refuse.result
+refused g c = refused-ends _ _ _ _ _ _ _ c.in-Err.fault c.in-Err.ensures (rw c.words_refusal.ensures.value at c.refuse.ensures)
 
 pub returns-in-Ok-read_text-clause-statuses : goal.returns-in-Ok-read_text-clause-statuses
-returns-in-Ok-read_text-clause-statuses g c = ends_statuses _ _ _ _ _ _ _ _ (replied g c)
+returns-in-Ok-read_text-clause-statuses g c = ends_statuses _ _ _ _ _ _ _ (replied g c)
 
 pub returns-in-Ok-read_text-clause-complete : goal.returns-in-Ok-read_text-clause-complete
-returns-in-Ok-read_text-clause-complete g c = λ source sink. ends_complete _ _ _ _ _ _ _ _ (replied g c) sink
+returns-in-Ok-read_text-clause-complete g c = λ source sink. ends_complete _ _ _ _ _ _ _ (replied g c) sink
 
 pub returns-in-Ok-read_text-clause-done : goal.returns-in-Ok-read_text-clause-done
-returns-in-Ok-read_text-clause-done g c = ends_done _ _ _ _ _ _ _ _ (replied g c)
+returns-in-Ok-read_text-clause-done g c = ends_done _ _ _ _ _ _ _ (replied g c)
 
 pub returns-in-Ok-read_text-clause-ample : goal.returns-in-Ok-read_text-clause-ample
-returns-in-Ok-read_text-clause-ample g c =
-    λ query asks.
-    ends_ample c.answer_laws.ensures.unique (map string_bytes c.args.words.now) (g.S.Source.left c.args.source.now)
-    (g.K.Sink.taken c.args.sink.now) _ c.reply.result query (ends_done _ _ _ _ _ _ _ _ (replied g c)) asks
+returns-in-Ok-read_text-clause-ample g c = λ query asks.
+    ends_ample (reads g c) c.words_laws.ensures.unique c.budget_laws.ensures.enough c.budget_laws.ensures.ample c.tree_laws.ensures.reach _ _ _ _ _ _ _ query asks (replied g c)
 
 pub returns-in-Ok-read_text-clause-unread : goal.returns-in-Ok-read_text-clause-unread
-returns-in-Ok-read_text-clause-unread g c =
-    λ fault refused.
-    let both = c.answer_laws.ensures.unique (map string_bytes c.args.words.now) (Ok c.in-Ok.query) (Err fault) c.in-Ok.ensures refused in
+returns-in-Ok-read_text-clause-unread g c = λ fault refused.
+    let both = c.words_laws.ensures.unique (map string_bytes c.args.words.now) (Ok c.in-Ok.query) (Err fault) c.in-Ok.ensures refused in
     absurd cc
 
 pub returns-in-Ok-read_text-clause-ended : goal.returns-in-Ok-read_text-clause-ended
-returns-in-Ok-read_text-clause-ended g c = ends_ended _ _ _ _ _ _ _ _ _ _ (front g c) (replied g c)
+returns-in-Ok-read_text-clause-ended g c = ends_ended _ _ _ _ _ _ _ (reads g c) _ _ (front g c) (replied g c)
 
 pub returns-in-Ok-read_text-clause-source_fault : goal.returns-in-Ok-read_text-clause-source_fault
-returns-in-Ok-read_text-clause-source_fault g c = λ four. absurd (ends_read _ _ _ _ _ _ _ _ (replied g c) four)
+returns-in-Ok-read_text-clause-source_fault g c = λ four. absurd (ends_read _ _ _ _ _ _ _ (replied g c) four)
 
 pub returns-in-Ok-read_text-clause-sink_fault : goal.returns-in-Ok-read_text-clause-sink_fault
-returns-in-Ok-read_text-clause-sink_fault g c = ends_sink_fault _ _ _ _ _ _ _ _ (replied g c)
+returns-in-Ok-read_text-clause-sink_fault g c = ends_sink_fault _ _ _ _ _ _ _ (replied g c)
 
 pub returns-in-Ok-read_text-clause-memory : goal.returns-in-Ok-read_text-clause-memory
-returns-in-Ok-read_text-clause-memory g c = λ six. ((c.in-Ok.query, c.in-Ok.ensures), ends_memory _ _ _ _ _ _ _ _ (replied g c) six)
+returns-in-Ok-read_text-clause-memory g c = λ six. ((c.in-Ok.query, c.in-Ok.ensures), ends_memory _ _ _ _ _ _ _ (replied g c) six)
 
 pub returns-in-Err-Failed-clause-unread : goal.returns-in-Err-Failed-clause-unread
-returns-in-Err-Failed-clause-unread g c =
-    λ fault refused.
-    let both = c.answer_laws.ensures.unique (map string_bytes c.args.words.now) (Ok c.in-Ok.query) (Err fault) c.in-Ok.ensures refused in
+returns-in-Err-Failed-clause-unread g c = λ fault refused.
+    let both = c.words_laws.ensures.unique (map string_bytes c.args.words.now) (Ok c.in-Ok.query) (Err fault) c.in-Ok.ensures refused in
     absurd cc
 
 pub returns-in-Err-Memory-clause-unread : goal.returns-in-Err-Memory-clause-unread
-returns-in-Err-Memory-clause-unread g c =
-    λ fault refused.
-    let both = c.answer_laws.ensures.unique (map string_bytes c.args.words.now) (Ok c.in-Ok.query) (Err fault) c.in-Ok.ensures refused in
+returns-in-Err-Memory-clause-unread g c = λ fault refused.
+    let both = c.words_laws.ensures.unique (map string_bytes c.args.words.now) (Ok c.in-Ok.query) (Err fault) c.in-Ok.ensures refused in
     absurd cc
 
 pub returns-in-Err-clause-done : goal.returns-in-Err-clause-done
-returns-in-Err-clause-done g c = ends_done _ _ _ _ _ _ _ _ (refused g c)
+returns-in-Err-clause-done g c = ends_done _ _ _ _ _ _ _ (refused g c)
 
 pub returns-in-Err-clause-read : goal.returns-in-Err-clause-read
-returns-in-Err-clause-read g c =
-    λ query asks is.
-    let both = c.answer_laws.ensures.unique (map string_bytes c.args.words.now) (Err c.in-Err.fault) (Ok query) c.in-Err.ensures asks in
+returns-in-Err-clause-read g c = λ query asks is.
+    let both = c.words_laws.ensures.unique (map string_bytes c.args.words.now) (Err c.in-Err.fault) (Ok query) c.in-Err.ensures asks in
     absurd cc
 
 pub returns-in-Err-clause-sink_fault : goal.returns-in-Err-clause-sink_fault
-returns-in-Err-clause-sink_fault g c = ends_sink_fault _ _ _ _ _ _ _ _ (refused g c)
+returns-in-Err-clause-sink_fault g c = ends_sink_fault _ _ _ _ _ _ _ (refused g c)

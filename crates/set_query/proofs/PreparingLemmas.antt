@@ -1,0 +1,110 @@
+-- From what is prepared to the outcome.
+use Rattle.std.proofs.Common.{◌≡◌, ◌≤◌, ℕ, ℤ, List, arith, subst, Option, Some, None, option_map, Result, Ok, Err, refl, sym, ap, ◌∙◌, IfSome, true, false, inl, is_ok}
+use Rattle.cert_audit.specs.Due.{IsDue}
+use Rattle.cert_audit.specs.Lowered.{CanBeReady}
+use Rattle.expr_text.specs.Accepted.{IsRead}
+use Rattle.expr_text.specs.Fault.{Fault}
+use Rattle.phases.specs.Phases.{By, fails, goes_on}
+use Rattle.expr_text.specs.Printing.{print_program}
+use Rattle.report_text.specs.Lines.{with_line_feed}
+use Rattle.moment_core.specs.declared.line.Dir.TheVariants.{Fore}
+use Rattle.expr_text.specs.Sorted.{HasSort, HaveSorts, HasSecondSort, tree_of_set, trees_of_sorted}
+use Rattle.expr_text.specs.declared.sorted.SortedProgram.{SortedProgram}
+use Rattle.expr_text.specs.declared.sorted.SortedSet.{SortedSet}
+use Rattle.expr_tree.specs.Members.{is_member}
+use Rattle.expr_tree.specs.Tree.{Tree, Trees}
+use Rattle.expr_tree.specs.WellFormed.{IsWellFormed}
+use Rattle.expr_tree.specs.declared.tree.Kind.{Kind}
+use Rattle.moment_core.specs.Line.{position_of}
+use Rattle.moment_core.specs.Clocks.{one_clock}
+use Rattle.moment_core.specs.declared.line.Clock.{Clock}
+use Rattle.near_search.specs.Neighbours.{IsAnswered, IsForEver, IsNextOrStop}
+use Rattle.query_words.specs.Words.{Asks, SaysBudget, given, by_default}
+use Rattle.query_words.specs.Words as words
+use Rattle.query_words.specs.declared.queries.Query.{Query}
+use Rattle.report_text.specs.Refusals.{IsPrintable}
+use Rattle.report_text.specs.declared.refusals.Refusal.{Refusal}
+use Rattle.report_text.specs.declared.refusals.Refusal.TheVariants as refusals
+use Rattle.span_core.specs.declared.answers.Near.{Near}
+use Rattle.stored_pair.specs.Meanings.{Entries, Meaning}
+use Rattle.span_core.specs.declared.answers.Near.TheVariants as nears
+use Rattle.outside_core.specs.declared.writes.Sink.{Ghosts as Sink}
+use Rattle.set_query.specs.Effects.{IsWritten}
+use Rattle.set_query.specs.Reading.{AreSecondSorts, AreSorts, IsMeant, Reading, OnClock, faulty, on_clock, sets_clock, takes, unless_clock, words_clock}
+use Rattle.set_query.specs.Preparing.{GivesClock, GivesReport, IsUnready, Prepares, clocked, reading_of, sort_of_set, sorts_of}
+use Rattle.set_query.specs.declared.preparing.Report.{Report}
+use Rattle.set_query.specs.declared.preparing.Unready.{Unready}
+use Rattle.set_query.specs.declared.preparing.Unready.TheVariants as unready
+use Rattle.set_query.specs.Refusals.{text_refusal}
+use Rattle.set_query.specs.Report.{Outcome, IsAmpleOf, IsInRange, IsPrinted, IsSearched, answered, next, printed, refused, replied, stopped, told, window_of}
+
+budget_in_range : (later : List (List ℕ)) (n : ℕ) → SaysBudget later n → 1 ≤ n
+budget_in_range later n (given m s) = s.is.in_range.0
+budget_in_range later n (by_default none) = omega arith
+
+pub asks_in_range : (asked : List (List ℕ)) (query : Query) → Asks asked query → IsInRange query
+asks_in_range asked query (words.near side later at budget e good says said) = (says.is.in_range, budget_in_range later budget said)
+asks_in_range asked query (words.show later e good) = tt
+
+-- a program's sorts are those of its trees
+second_sorts : (o : Option SortedSet) → HasSecondSort o → AreSecondSorts (option_map tree_of_set o) (option_map sort_of_set o)
+second_sorts None h = tt
+second_sorts (Some s) h = h
+
+pub are_sorts : (p : SortedProgram) → HaveSorts p → AreSorts (trees_of_sorted p) (sorts_of p)
+are_sorts p h = (h.0, second_sorts p.second h.1)
+
+-- a set of a text can be made ready
+pub can_be_ready : (s : SortedSet) → IsWellFormed (tree_of_set s) → HasSort s → CanBeReady (tree_of_set s)
+can_be_ready s h e = record { well_formed = h; sorted = inl (ap is_ok e) }
+
+-- a fault that refuses is the text's
+pub fault_meant : (text : List ℕ) (o : Option Fault) (refusal : Refusal) → option_map text_refusal o ≡ Some refusal → IfSome (option_map (λ f. Err f) o) (IsRead text) → IsMeant text (Err refusal)
+fault_meant text None refusal e h = absurd cc
+fault_meant text (Some fault) refusal e h = subst (λ (x : Refusal). IsMeant text (Err x)) (let same : text_refusal fault ≡ refusal = cc in same) (faulty fault h)
+
+-- what is reported of a reading is the reply
+pub replies : (entries : Entries) (query : Query) (text : List ℕ) (reading : Reading) (clock : Clock) (r : Result Report Unready) → IsMeant text (Ok reading) → GivesClock query reading (Ok clock) → GivesReport entries query reading clock r → Prepares entries query text r
+replies entries query text reading clock (Ok report) meant fits h =
+    let x : OnClock = record { reading = reading; clock = clock } in
+    λ o reports. replied x o (goes_on reading (Ok x) meant fits) (h o reports)
+replies entries query text reading clock (Err (unready.Refused refusal)) meant fits h = absurd h
+replies entries query text reading clock (Err unready.Memory) meant fits h = tt
+
+pub not_meant : (entries : Entries) (query : Query) (text : List ℕ) (e : Unready) → IsUnready (λ refusal. IsMeant text (Err refusal)) e → Prepares entries query text (Err e)
+not_meant entries query text (unready.Refused refusal) h = (h.0, refused refusal (fails refusal h.1))
+not_meant entries query text unready.Memory h = tt
+
+pub not_fitting : (entries : Entries) (query : Query) (text : List ℕ) (reading : Reading) (refusal : Refusal) → IsPrintable refusal → IsMeant text (Ok reading) → GivesClock query reading (Err refusal) → Prepares entries query text (Err (unready.Refused refusal))
+not_fitting entries query text reading refusal printable meant fits = (printable, refused refusal (goes_on reading (Err refusal) meant fits))
+
+-- what a search gives is its outcome
+pub searched_by : (t : Tree Meaning) (kind : Kind) (clock : Clock) (at : ℤ) (budget : ℕ) (near : Near) → IsNextOrStop (is_member t) (window_of t) Fore (IsDue t) at budget near → IsForEver (is_member t) Fore (position_of at) near → (IsAmpleOf t at budget → IsAnswered near) → IsSearched t kind clock at budget (told kind clock near)
+searched_by t kind clock at budget (nears.Found run) is for_ever ample = next (nears.Found run) (is, for_ever)
+searched_by t kind clock at budget (nears.None w) is for_ever ample = next (nears.None w) (is, for_ever)
+searched_by t kind clock at budget nears.Edge is for_ever ample = next nears.Edge (is, for_ever)
+searched_by t kind clock at budget (nears.Budget s) is for_ever ample = stopped s is ample
+
+pub written_as : {K : Type 0} {sink : Sink K} {old new : K} {result : ℕ} (o : Outcome) (status : ℕ) (line : List ℕ) → status ≡ o.status → line ≡ o.bytes → IsWritten sink old new (record { status = status; bytes = line }) result → IsWritten sink old new o result
+written_as {K} {sink} {old} {new} {result} o status line same is w =
+    subst (λ bytes. IsWritten sink old new (record { status = o.status; bytes = bytes }) result) is
+    (subst (λ n. IsWritten sink old new (record { status = n; bytes = line }) result) same w)
+
+-- the command doesn't take so many expressions
+pub not_taken : (query : Query) (p : SortedProgram) → takes query (trees_of_sorted p).second ≡ false → GivesClock query (reading_of p) (Err refusals.Two)
+not_taken query p e = fails refusals.Two (rw e refl)
+
+-- it does, and the clocks are one or differ
+pub taken : (query : Query) (p : SortedProgram) (r : Result Clock Refusal) → takes query (trees_of_sorted p).second ≡ true → By (unless_clock query) (reading_of p) (clocked (reading_of p) r) → GivesClock query (reading_of p) r
+taken query p r e clock = goes_on (reading_of p) (clocked (reading_of p) r) (rw e refl) clock
+
+pub one_clock_of : (query : Query) (p : SortedProgram) (clock : Clock) → one_clock (sets_clock (sorts_of p)) (words_clock query) ≡ Some clock → By (unless_clock query) (reading_of p) (clocked (reading_of p) (Ok clock))
+one_clock_of query p clock e = ap (on_clock (reading_of p)) (sym e)
+
+pub no_clock_of : (query : Query) (p : SortedProgram) → one_clock (sets_clock (sorts_of p)) (words_clock query) ≡ None → By (unless_clock query) (reading_of p) (clocked (reading_of p) (Err refusals.Clock))
+no_clock_of query p e = ap (on_clock (reading_of p)) (sym e)
+
+pub printed_as : (trees : Trees) (bytes : List ℕ) (o : Outcome) → bytes ≡ with_line_feed (print_program trees) → o ≡ record { status = 0; bytes = bytes } → IsPrinted trees o
+printed_as trees bytes o e is =
+    let same : o ≡ answered (print_program trees) = is ∙ ap (λ (x : List ℕ). let y : Outcome = record { status = 0; bytes = x } in y) e in
+    subst (IsPrinted trees) (sym same) printed

@@ -1,0 +1,58 @@
+//! What the program says of itself.
+
+/// The program's name and version.
+pub(crate) const VERSION: &str = "towhipae 0.1.0\n";
+
+/// What the program does, its commands with their keys, examples and statuses.
+pub(crate) const HELP: &str = "\
+towhipae tells when a set of moments or spans next happens, for ever both ways.
+
+  towhipae COMMAND [KEY=VALUE].. < TEXT
+
+The text on standard input says what the set is; one line is written.
+
+Commands:
+  next at=M [budget=N]   the first run that begins after the moment M
+  show                   the printed form of the text
+
+A moment is written 2026-12-24T18:00:00, or with a Z on the absolute clock.
+A search stops once it has passed N places at which something may change,
+from 1 to 1000000000000; without N it is 100000000.
+
+Texts:
+  {2026-12-24T18:00:00}       a list of moments
+  span(start M, before M)     a span; start, end are closed, after, before open
+  monthly(days=-1 hours=9)    a rule: yearly, monthly, weekly, daily, hourly,
+                              minutely or secondly
+  empty()  a | b  a & b  a - b  !a  (a)
+
+Examples:
+  $ echo '{2026-12-24T18:00:00}' | towhipae next at=2026-12-01T00:00:00
+  2026-12-24T18:00:00
+  $ echo '!{2003-01-01T00:00:00}' | towhipae next at=2003-01-01T00:00:00
+  (2003-01-01T00:00:00 .. inf)
+  $ echo 'monthly(days=-1)' | towhipae next at=2024-02-10T00:00:00
+  2024-02-29T00:00:00
+  $ echo '{2026-12-24T18:00:00} & span( )' | towhipae show
+  {2026-12-24T18:00:00} & span()
+
+Status:
+  0  answered, by a run, by `none` or by `edge`
+  2  refused; the line names what is wrong
+  3  a search stopped for its budget
+  4  a read failed, and nothing was written
+  5  the line could not be written whole
+  6  memory ran out, and nothing was written
+";
+
+/// What the words ask of the program itself: its help or its version, each as the only word.
+pub(crate) fn text_of(words: &[String]) -> Option<&'static str> {
+    match words {
+        [word] => match word.as_str() {
+            "--help" => Some(HELP),
+            "--version" => Some(VERSION),
+            _ => None,
+        },
+        _ => None,
+    }
+}

@@ -1,0 +1,175 @@
+//! What is put together before anything is written: all that can be refused, and all that takes memory.
+
+ghost use Rattle.std.specs.Prelude.{◌≡◌, IfErr, IfOk};
+ghost use Rattle.expr_text.specs.Accepted.{AreWellFormed};
+ghost use Rattle.expr_text.specs.Printing.{print_program};
+ghost use Rattle.expr_text.specs.Sorted.{trees_of_sorted, HaveSorts};
+ghost use Rattle.stored_pair.specs.Names.{entries_of};
+ghost use Rattle.report_text.specs.Lines.{with_line_feed};
+ghost use Rattle.report_text.specs.Refusals.{IsPrintable};
+ghost use Rattle.set_query.specs.declared.preparing.Unready.TheVariants.{Memory};
+ghost use Rattle.set_query.specs.Reading.{either_clock, sets_clock, takes, words_clock};
+ghost use Rattle.set_query.specs.Preparing.{reading_of, sorts_of, GivesClock, GivesMeant, GivesReport, Prepares};
+ghost use Rattle.set_query.specs.Report.{IsInRange};
+
+use crate::refusals::text_refusal;
+use crate::searching::Search;
+use cert_audit::{PlanFault, Ready};
+use expr_text::{SortedProgram, read_sorted, write_program};
+use moment_core::Clock;
+use query_words::Query;
+use report_text::{LINE_FEED, Refusal};
+use std::alloc::{AllocError, Global};
+use stored_pair::Book;
+
+/// A report that only has to be written.
+#[derive(Drop)]
+pub(crate) enum Report<'b> {
+    /// This text.
+    Printed(Vec<u8>),
+    /// The next run of a set after a moment.
+    Next(Search<'b>),
+}
+
+/// Why there is no report.
+#[derive(Clone, Copy)]
+pub(crate) enum Unready {
+    Refused(Refusal),
+    Memory,
+}
+
+impl From<AllocError> for Unready {
+    ghost from_gives = { λ _ e. e ≡ Memory };
+
+    fn from(_e: AllocError) -> Unready {
+        Unready::Memory
+    }
+}
+
+/// The program of the text, or its refusal.
+fn meant(alloc: Global, text: &[u8], book: &Book) -> Result<SortedProgram, Unready>
+    ensures meant { GivesMeant text.now result }
+    ensures well_formed { IfOk result (λ p. AreWellFormed (trees_of_sorted p)) }
+    ensures sorts { IfOk result HaveSorts }
+{
+    match read_sorted(alloc, text, book) {
+        Ok(program) => Ok(program),
+        Err(fault) => match text_refusal(fault) {
+            Some(refusal) => Err(Unready::Refused(refusal)),
+            None => Err(Unready::Memory),
+        },
+    }
+}
+
+/// Whether the command takes so many expressions.
+fn takes(query: Query, program: &SortedProgram) -> bool
+    ensures { result ≡ takes query (trees_of_sorted program.now).second }
+{
+    match query {
+        Query::Near { .. } => program.second.is_none(),
+        Query::Show => true,
+    }
+}
+
+/// The clock of the words' moments, any where they give none.
+fn words_clock(query: Query) -> Clock
+    ensures { result ≡ words_clock query }
+{
+    match query {
+        Query::Near { at, .. } => at.clock(),
+        Query::Show => Clock::Any,
+    }
+}
+
+fn either_clock(a: Clock, b: Clock) -> Clock
+    ensures { result ≡ either_clock a b }
+{
+    match a {
+        Clock::Any => b,
+        Clock::Floating | Clock::Absolute => a,
+    }
+}
+
+/// The one clock of the expressions, any giving way.
+fn sets_clock(program: &SortedProgram) -> Clock
+    ensures { result ≡ sets_clock (sorts_of program.now) }
+{
+    let second = match &program.second {
+        Some(second) => second.sort.clock,
+        None => Clock::Any,
+    };
+    either_clock(program.first.sort.clock, second)
+}
+
+/// The clock of the lines, where the command takes the program's expressions and the words' moments may be on their clock.
+fn clock_of(query: Query, program: &SortedProgram) -> Result<Clock, Refusal>
+    ensures clock { GivesClock query (reading_of program.now) result }
+    ensures printable { IfErr result IsPrintable }
+{
+    if !takes(query, program) {
+        return Err(Refusal::Two);
+    }
+    match sets_clock(program).common(words_clock(query)) {
+        Some(clock) => Ok(clock),
+        None => Err(Refusal::Clock),
+    }
+}
+
+/// The printed form of the program, and a line feed.
+fn printed_line(alloc: Global, program: SortedProgram) -> Result<Vec<u8>, AllocError>
+    requires { AreWellFormed (trees_of_sorted program) }
+    ensures { IfOk result
+        (λ line. line.items ≡ with_line_feed (print_program (trees_of_sorted program))) }
+{
+    let mut line = write_program(alloc, &program.program())?;
+    line.push(LINE_FEED)?;
+    Ok(line)
+}
+
+/// The report of a query over a program that it takes, with all memory that it takes.
+fn make_report<'b>(
+    alloc: Global,
+    query: Query,
+    program: SortedProgram,
+    clock: Clock,
+    book: &'b Book,
+) -> Result<Report<'b>, Unready>
+    requires range { IsInRange query }
+    requires well_formed { AreWellFormed (trees_of_sorted program) }
+    requires sorts { HaveSorts program }
+    ensures { GivesReport (entries_of book.now) query (reading_of program) clock result }
+{
+    match query {
+        Query::Near { at, budget, .. } => match Ready::make(alloc, &program.first.set, book) {
+            Ok(ready) => Ok(Report::Next(Search {
+                ready,
+                kind: program.first.sort.kind,
+                clock,
+                at: at.moment,
+                budget,
+            })),
+            Err(PlanFault::Settle { passed, at }) => {
+                Err(Unready::Refused(Refusal::Settle { passed, at }))
+            }
+            Err(PlanFault::Memory) => Err(Unready::Memory),
+        },
+        Query::Show => Ok(Report::Printed(printed_line(alloc, program)?)),
+    }
+}
+
+/// The report of a query over a text, or its refusal.
+pub(crate) fn prepare<'b>(
+    alloc: Global,
+    query: Query,
+    text: &[u8],
+    book: &'b Book,
+) -> Result<Report<'b>, Unready>
+    requires { IsInRange query }
+    ensures { Prepares (entries_of book.now) query text.now result }
+{
+    let program = meant(alloc, text, book)?;
+    match clock_of(query, &program) {
+        Ok(clock) => make_report(alloc, query, program, clock, book),
+        Err(refusal) => Err(Unready::Refused(refusal)),
+    }
+}
