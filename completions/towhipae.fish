@@ -1,0 +1,7 @@
+# fish completion for towhipae
+complete -c towhipae -f
+complete -c towhipae -n __fish_is_first_arg -a next -d 'the first run that begins after a moment'
+complete -c towhipae -n __fish_is_first_arg -a show -d 'the printed form of the text'
+complete -c towhipae -n __fish_is_first_arg -l help -d 'what the program does'
+complete -c towhipae -n __fish_is_first_arg -l version -d 'its version'
+complete -c towhipae -n '__fish_seen_subcommand_from next' -a 'at= budget='
