@@ -23,6 +23,33 @@ fn span(low: Clock, high: Clock) -> Result<Expr, span_core::Empty> {
     Ok(Expr::Span(span, low, high))
 }
 
+fn floating(alloc: Global) -> Result<Expr, AllocError> {
+    moments(alloc, false, false)
+}
+
+fn absolute(alloc: Global) -> Result<Expr, AllocError> {
+    moments(alloc, true, true)
+}
+
+fn open() -> Result<Expr, span_core::Empty> {
+    span(Clock::Floating, Clock::Any)
+}
+
+fn union(alloc: Global, a: Expr, b: Expr) -> Result<Expr, AllocError> {
+    let left = Box::new(alloc, a)?;
+    Ok(Expr::Union(left, Box::new(alloc, b)?))
+}
+
+fn meet(alloc: Global, a: Expr, b: Expr) -> Result<Expr, AllocError> {
+    let left = Box::new(alloc, a)?;
+    Ok(Expr::Meet(left, Box::new(alloc, b)?))
+}
+
+fn minus(alloc: Global, a: Expr, b: Expr) -> Result<Expr, AllocError> {
+    let left = Box::new(alloc, a)?;
+    Ok(Expr::Minus(left, Box::new(alloc, b)?))
+}
+
 fn inverse(alloc: Global, a: Expr) -> Result<Expr, AllocError> {
     Ok(Expr::Not(Box::new(alloc, a)?))
 }
@@ -46,88 +73,106 @@ fn unions(alloc: Global, levels: u32) -> Result<Expr, AllocError> {
     Ok(Expr::Union(left, right))
 }
 
+/// The sort of a set, which is given up.
+fn sort(set: Expr, book: &Book) -> Result<Sort, SortFault> {
+    sort_of(&set, book)
+}
+
+/// The kind and the clock of a set, which is given up.
+fn kind(set: Expr, book: &Book) -> Result<(Kind, Clock), SortFault> {
+    sort_of(&set, book).map(|sort| (sort.kind, sort.clock))
+}
+
 #[test]
-fn the_kind_and_the_clock_follow_from_the_parts(rt: HostRuntime) -> Result<(), Fail> {
+fn a_leaf_has_its_own_kind_and_clock(rt: HostRuntime) -> Result<(), Fail> {
     let alloc = rt.alloc();
     let book = Book::empty(alloc);
-    let floating = || moments(alloc, false, false);
-    let absolute = || moments(alloc, true, true);
-    let open = || span(Clock::Floating, Clock::Any);
-    let rows = [
-        (Expr::Empty, Ok((Kind::Moments, Clock::Any))),
-        (floating()?, Ok((Kind::Moments, Clock::Floating))),
-        (absolute()?, Ok((Kind::Moments, Clock::Absolute))),
-        (moments(alloc, false, true)?, Err(SortFault::Clock)),
-        (open()?, Ok((Kind::Spans, Clock::Floating))),
-        (
-            span(Clock::Floating, Clock::Absolute)?,
-            Err(SortFault::Clock),
-        ),
-        (
-            Expr::Union(Box::new(alloc, floating()?)?, Box::new(alloc, Expr::Empty)?),
-            Ok((Kind::Moments, Clock::Floating)),
-        ),
-        (
-            Expr::Union(Box::new(alloc, floating()?)?, Box::new(alloc, open()?)?),
-            Ok((Kind::Spans, Clock::Floating)),
-        ),
-        (
-            Expr::Union(Box::new(alloc, floating()?)?, Box::new(alloc, absolute()?)?),
-            Err(SortFault::Clock),
-        ),
-        (
-            Expr::Meet(Box::new(alloc, open()?)?, Box::new(alloc, floating()?)?),
-            Ok((Kind::Moments, Clock::Floating)),
-        ),
-        (
-            Expr::Meet(Box::new(alloc, open()?)?, Box::new(alloc, open()?)?),
-            Ok((Kind::Spans, Clock::Floating)),
-        ),
-        (
-            Expr::Minus(Box::new(alloc, floating()?)?, Box::new(alloc, open()?)?),
-            Ok((Kind::Moments, Clock::Floating)),
-        ),
-        (
-            Expr::Minus(Box::new(alloc, open()?)?, Box::new(alloc, floating()?)?),
-            Ok((Kind::Spans, Clock::Floating)),
-        ),
-        (
-            inverse(alloc, absolute()?)?,
-            Ok((Kind::Spans, Clock::Absolute)),
-        ),
-    ];
-    for (set, want) in rows {
-        let sort = sort_of(&set, &book).map(|sort| (sort.kind, sort.clock));
-        assert_eq!(rt; sort, want, "at {set:?}");
-    }
+    let mixed = span(Clock::Floating, Clock::Absolute)?;
+    assert_eq!(rt; kind(Expr::Empty, &book), Ok((Kind::Moments, Clock::Any)));
+    assert_eq!(rt;
+        kind(floating(alloc)?, &book),
+        Ok((Kind::Moments, Clock::Floating))
+    );
+    assert_eq!(rt;
+        kind(absolute(alloc)?, &book),
+        Ok((Kind::Moments, Clock::Absolute))
+    );
+    assert_eq!(rt;
+        kind(moments(alloc, false, true)?, &book),
+        Err(SortFault::Clock)
+    );
+    assert_eq!(rt; kind(open()?, &book), Ok((Kind::Spans, Clock::Floating)));
+    assert_eq!(rt; kind(mixed, &book), Err(SortFault::Clock));
     Ok(())
 }
 
 #[test]
-fn a_tree_has_at_most_1024_nodes_and_128_on_a_path(rt: HostRuntime) -> Result<(), Fail> {
+fn unions_have_spans_where_either_has(rt: HostRuntime) -> Result<(), Fail> {
     let alloc = rt.alloc();
     let book = Book::empty(alloc);
-    let sized = |depth, nodes| {
-        Ok(Sort {
-            kind: Kind::Spans,
-            clock: Clock::Any,
-            reach: 0,
-            depth,
-            nodes,
-        })
-    };
-    assert_eq!(rt; sort_of(&inverses(alloc, 127)?, &book), sized(128, 128));
-    assert_eq!(rt;
-        sort_of(&inverses(alloc, 128)?, &book),
-        Err(SortFault::Depth)
-    );
+    let points = union(alloc, floating(alloc)?, Expr::Empty)?;
+    assert_eq!(rt; kind(points, &book), Ok((Kind::Moments, Clock::Floating)));
+    let mixed = union(alloc, floating(alloc)?, open()?)?;
+    assert_eq!(rt; kind(mixed, &book), Ok((Kind::Spans, Clock::Floating)));
+    let clocks = union(alloc, floating(alloc)?, absolute(alloc)?)?;
+    assert_eq!(rt; kind(clocks, &book), Err(SortFault::Clock));
+    Ok(())
+}
+
+#[test]
+fn meets_have_moments_where_either_has(rt: HostRuntime) -> Result<(), Fail> {
+    let alloc = rt.alloc();
+    let book = Book::empty(alloc);
+    let points = meet(alloc, open()?, floating(alloc)?)?;
+    assert_eq!(rt; kind(points, &book), Ok((Kind::Moments, Clock::Floating)));
+    let spans = meet(alloc, open()?, open()?)?;
+    assert_eq!(rt; kind(spans, &book), Ok((Kind::Spans, Clock::Floating)));
+    Ok(())
+}
+
+#[test]
+fn differences_have_the_kind_of_the_first_and_inverses_have_spans(
+    rt: HostRuntime,
+) -> Result<(), Fail> {
+    let alloc = rt.alloc();
+    let book = Book::empty(alloc);
+    let points = minus(alloc, floating(alloc)?, open()?)?;
+    assert_eq!(rt; kind(points, &book), Ok((Kind::Moments, Clock::Floating)));
+    let spans = minus(alloc, open()?, floating(alloc)?)?;
+    assert_eq!(rt; kind(spans, &book), Ok((Kind::Spans, Clock::Floating)));
+    let others = inverse(alloc, absolute(alloc)?)?;
+    assert_eq!(rt; kind(others, &book), Ok((Kind::Spans, Clock::Absolute)));
+    Ok(())
+}
+
+/// The sort of a tree of spans without a clock that has this depth and so many nodes.
+fn sized(depth: u32, nodes: u32) -> Result<Sort, SortFault> {
+    Ok(Sort {
+        kind: Kind::Spans,
+        clock: Clock::Any,
+        reach: 0,
+        depth,
+        nodes,
+    })
+}
+
+#[test]
+fn a_tree_has_at_most_128_nodes_on_a_path(rt: HostRuntime) -> Result<(), Fail> {
+    let alloc = rt.alloc();
+    let book = Book::empty(alloc);
+    assert_eq!(rt; sort(inverses(alloc, 127)?, &book), sized(128, 128));
+    assert_eq!(rt; sort(inverses(alloc, 128)?, &book), Err(SortFault::Depth));
+    Ok(())
+}
+
+#[test]
+fn a_tree_has_at_most_1024_nodes(rt: HostRuntime) -> Result<(), Fail> {
+    let alloc = rt.alloc();
+    let book = Book::empty(alloc);
     let full = inverse(alloc, unions(alloc, 9)?)?;
-    assert_eq!(rt; sort_of(&full, &book), sized(11, 1024));
-    let more = inverse(alloc, full)?;
-    assert_eq!(rt; sort_of(&more, &book), Err(SortFault::Nodes));
-    assert_eq!(rt;
-        sort_of(&inverses(alloc, 1024)?, &book),
-        Err(SortFault::Nodes)
-    );
+    assert_eq!(rt; sort(full, &book), sized(11, 1024));
+    let more = inverse(alloc, inverse(alloc, unions(alloc, 9)?)?)?;
+    assert_eq!(rt; sort(more, &book), Err(SortFault::Nodes));
+    assert_eq!(rt; sort(inverses(alloc, 1024)?, &book), Err(SortFault::Nodes));
     Ok(())
 }
