@@ -2,7 +2,7 @@ ghost use Rattle.std.specs.Prelude.{◌≡◌, ◌<◌, ◌≤◌, ◌∷◌, �
 ghost use Rattle.expr_tokens.specs.Plain.{plains};
 ghost use Rattle.expr_grammar.specs.Form.{Form, Forms, Listed, Span};
 ghost use Rattle.expr_grammar.specs.Syntax.{HasPlaces, KeepsPlaces, form_of, forms_of, places_of, all_places_of, span_places};
-ghost use Rattle.expr_grammar.specs.Moments.{IsNext};
+ghost use Rattle.expr_grammar.specs.Moments.{IsNextMoment};
 ghost use Rattle.expr_grammar.specs.Grammar.{SpellNothing, Spells};
 ghost use Rattle.expr_grammar.specs.Parsing.{Gives, ReadsMoments, ReadsTree, deeper_at, operands_at, stands, moment_at, list_at, moments_at, moments_end_at, with_first, close_at, high_at, high_end_at, low_end_at, span_at, leaf_at, atom_at, expr_at, nested_at, operand_at, chain_at, program_end_at, program_at, second_at};
 
@@ -30,7 +30,7 @@ fn behind<'t, 'a>(op: Op, tokens: &'t [Token<'a>]) -> Option<&'t [Token<'a>]>
 /// The next moment of a list, and the tokens behind it.
 #[tactic(auto, unfolding(crate::specs::Parsing::moments_at, crate::specs::Parsing::moments_end_at))]
 fn next_moment<'t, 'a>(tokens: &'t [Token<'a>]) -> Option<(Option<Stamp>, &'t [Token<'a>])>
-    ensures read { IsNext (plains tokens.now) result }
+    ensures read { IsNextMoment (plains tokens.now) result }
     ensures places { IfSome result (λ x. span_places x.1.now ≡ span_places tokens.now) }
     ensures shorter { IfSome result (λ x. length x.1.now < length tokens.now) }
 {

@@ -35,7 +35,7 @@ use Rattle.set_query.specs.Effects.{IsDone, IsReported, IsWritten, IsOutcomeOf, 
 use Rattle.set_query.specs.declared.reading.TheConstants.{ROOM}
 use Rattle.set_query.specs.Reading.{AreSorts, IsMeant, Reading, OnClock, Passes, faulty, on_clock, sets, sets_clock, takes, words_clock}
 use Rattle.set_query.specs.Refusals.{words_refusal}
-use Rattle.set_query.specs.Report.{Outcome, IsAmple, IsAmpleOf, IsEnough, IsInRange, IsOutcome, IsPrinted, IsReply, IsReportOf, IsSearched, asked, bad_words, next, printed, refused, refused_by, replied, status_of, stopped}
+use Rattle.set_query.specs.Report.{Outcome, HasAmpleBudget, IsAmpleOf, IsEnough, IsInRange, IsOutcome, IsPrinted, IsReply, IsReportOf, IsSearched, asked, bad_words, next, printed, refused, refused_by, replied, status_of, stopped}
 use Rattle.set_query.proofs.PreparingLemmas.{asks_in_range}
 
 take-short : (text : List ℕ) (n : ℕ) → length text ≤ n → take n text ≡ text
@@ -171,7 +171,7 @@ record HasTrees (text : List ℕ) (reading : Reading) : Type 0 where
 meant_trees : (text : List ℕ) (reading other : Reading) → other ≡ reading → IsMeant text (Ok other) → HasTrees text reading
 meant_trees text reading other e (sets _ h are) = subst (HasTrees text) e (record { read = h; sorted = are })
 
-report_stops : {entries : Entries} → Reads → EnoughFindsNext → AmpleFindsNext → SortedStayInReach → (text : List ℕ) (query : Query) (reading : Reading) (clock : Clock) (o : Outcome) → IsInRange query → IsMeant text (Ok reading) → IsReportOf entries query reading clock o → o.status ≡ 3 → IsAmple entries text query → ⊥
+report_stops : {entries : Entries} → Reads → EnoughFindsNext → AmpleFindsNext → SortedStayInReach → (text : List ℕ) (query : Query) (reading : Reading) (clock : Clock) (o : Outcome) → IsInRange query → IsMeant text (Ok reading) → IsReportOf entries query reading clock o → o.status ≡ 3 → HasAmpleBudget entries text query → ⊥
 report_stops {entries} reads above finds reach text Show reading clock o within meant h e ample = let zero = printed_done h in absurd (omega (arith, e, zero))
 report_stops {entries} reads above finds reach text (NearBy side at budget) reading clock o within meant h e ample =
     let asks : NearBy side at budget ≡ NearBy ample.side ample.at ample.budget = ample.asks in
@@ -183,16 +183,16 @@ report_stops {entries} reads above finds reach text (NearBy side at budget) read
     let enough = subst (λ b. IsEnough (meant_of entries reading.trees.first) at.moment.0 b) same_budget (subst (λ (s : Stamp). IsEnough (meant_of entries reading.trees.first) s.moment.0 ample.budget) same_at (subst (λ (t : Trees). IsEnough (meant_of entries t.first) ample.at.moment.0 ample.budget) same ample.ample)) in
     never_stops h e (never_due above finds reach entries reading.trees.first reading.sorts.first at.moment.0 budget has.sorted.0 within.0 enough)
 
-reply_stops : {entries : Entries} → Reads → EnoughFindsNext → AmpleFindsNext → SortedStayInReach → (text : List ℕ) (query : Query) (o : Outcome) → IsInRange query → IsReply entries query text o → o.status ≡ 3 → IsAmple entries text query → ⊥
+reply_stops : {entries : Entries} → Reads → EnoughFindsNext → AmpleFindsNext → SortedStayInReach → (text : List ℕ) (query : Query) (o : Outcome) → IsInRange query → IsReply entries query text o → o.status ≡ 3 → HasAmpleBudget entries text query → ⊥
 reply_stops reads above finds reach text query o within (refused refusal h) e ample = absurd (omega (arith, e))
 reply_stops reads above finds reach text query o within (replied x o_r h report) e ample = report_stops reads above finds reach text query x.reading x.clock o within (reading_kept query text x h) report e ample
 
-outcome_stops : {entries : Entries} → Reads → WordsAreReadOnce → EnoughFindsNext → AmpleFindsNext → SortedStayInReach → (words : List (List ℕ)) (text : List ℕ) (query : Query) (o : Outcome) → IsOutcome entries words text o → Asks words query → IsAmple entries text query → o.status ≡ 3 → ⊥
+outcome_stops : {entries : Entries} → Reads → WordsAreReadOnce → EnoughFindsNext → AmpleFindsNext → SortedStayInReach → (words : List (List ℕ)) (text : List ℕ) (query : Query) (o : Outcome) → IsOutcome entries words text o → Asks words query → HasAmpleBudget entries text query → o.status ≡ 3 → ⊥
 outcome_stops {entries} reads unique above finds reach words text query o (bad_words fault r) asks ample e = absurd (omega (arith, e))
 outcome_stops {entries} reads unique above finds reach words text query o (asked query_r o_r asks_r r) asks ample e =
     let both = unique words (Ok query_r) (Ok query) asks_r asks in
     let same : query ≡ query_r = cc in
-    reply_stops reads above finds reach text query_r o (asks_in_range words query_r asks_r) r e (subst (λ (q : Query). IsAmple entries text q) same ample)
+    reply_stops reads above finds reach text query_r o (asks_in_range words query_r asks_r) r e (subst (λ (q : Query). HasAmpleBudget entries text q) same ample)
 
 -- a text that is answered has fewer bytes than are read
 meant_short : Reads → (text : List ℕ) (reading : Reading) → IsMeant text (Ok reading) → length text < ROOM
@@ -281,9 +281,9 @@ module _ {K : Type 0} (sink : Sink K) (old new : K) (entries : Entries) (words :
       let a = ends_done e (inr (inr three)) in
       read_out reads words left rest bytes a.outcome front a.of_words (λ two_s. let is = a.status_is in absurd (omega (arith, three, is, two_s)))
 
-pub ends_ample : Reads → WordsAreReadOnce → EnoughFindsNext → AmpleFindsNext → SortedStayInReach → {K : Type 0} (sink : Sink K) (old new : K) (entries : Entries) (words : List (List ℕ)) (left : Option (List ℕ)) (status : ℕ) (query : Query) → Asks words query → Ends sink old new entries words left status → IfSome left (λ text. IsAmple entries text query → status ≢ 3)
+pub ends_ample : Reads → WordsAreReadOnce → EnoughFindsNext → AmpleFindsNext → SortedStayInReach → {K : Type 0} (sink : Sink K) (old new : K) (entries : Entries) (words : List (List ℕ)) (left : Option (List ℕ)) (status : ℕ) (query : Query) → Asks words query → Ends sink old new entries words left status → IfSome left (λ text. HasAmpleBudget entries text query → status ≢ 3)
 ends_ample reads unique above finds reach sink old new entries words None status query asks e = tt
 ends_ample reads unique above finds reach sink old new entries words (Some text) status query asks e = λ ample three.
     let a = ends_done sink old new entries words (Some text) status e (inr (inr three)) in
     let same : text ≡ a.of_words.text = a.of_words.told in
-    outcome_stops reads unique above finds reach words a.of_words.text query a.outcome a.of_words.as_asked asks (subst (λ z. IsAmple entries z query) same ample) (sym a.status_is ∙ three)
+    outcome_stops reads unique above finds reach words a.of_words.text query a.outcome a.of_words.as_asked asks (subst (λ z. HasAmpleBudget entries z query) same ample) (sym a.status_is ∙ three)

@@ -1,6 +1,6 @@
 -- What the words and the text ask to be written.
 use Rattle.std.specs.Prelude.{◌≡◌, ◌≤◌, ◌⊎◌, ℕ, ℤ, List, Option, Ok, Err}
-use Rattle.cert_audit.specs.Ample.{IsAboveSearch, IsAmple as IsAmpleByDays}
+use Rattle.cert_audit.specs.Ample.{IsAboveSearch, IsAmple}
 use Rattle.cert_audit.specs.Due.{IsDue}
 use Rattle.cert_audit.specs.TreeFrames.{frame_of_tree}
 use Rattle.expr_text.specs.Accepted.{IsRead}
@@ -105,10 +105,10 @@ IsInRange (NearBy side at budget) = IsCalendarMoment at.moment.0 × (1 ≤ budge
 abbrev pub IsEnough : Tree Meaning → ℤ → ℕ → Type 0
 IsEnough t at budget =
     ((place : ℤ) → IsPlaceOfNext (is_member t) Fore at place → IsAboveSearch t Fore place budget)
-    ⊎ IsAmpleByDays t budget
+    ⊎ IsAmple t budget
 
 -- where the text is one tree, the budget of a query is ample
-pub record IsAmple (entries : Entries) (text : List ℕ) (query : Query) : Type 0 where
+pub record HasAmpleBudget (entries : Entries) (text : List ℕ) (query : Query) : Type 0 where
   pub at : Stamp
   pub budget : ℕ
   pub side : Neighbour

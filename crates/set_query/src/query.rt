@@ -8,7 +8,7 @@ ghost use Rattle.query_words.specs.declared.queries.Query.{Query};
 ghost use Rattle.query_words.specs.declared.queries.WordsFault.{WordsFault};
 ghost use Rattle.set_query.specs.Effects.{IsDone, IsReadOut, IsReported, Answers, BreaksOff, RanOut, ReadFailed, ReadsUpTo, WriteFailed};
 ghost use Rattle.set_query.specs.declared.reading.TheConstants.{ROOM};
-ghost use Rattle.set_query.specs.Report.{IsAmple, IsInRange, IsReply};
+ghost use Rattle.set_query.specs.Report.{HasAmpleBudget, IsInRange, IsReply};
 
 use crate::preparing::{Unready, prepare};
 use crate::reading::{ReadFault, read_text};
@@ -92,7 +92,7 @@ pub fn run<S: Source, K: Sink, L: Ledger>(
 
     // With an ample budget no search stops.
     ensures ample { (query : Query) → Asks (map string_bytes words.now) query
-        → IfSome (S.left source.old) (λ text. IsAmple (entries_of book.now) text query → result ≢ 3) }
+        → IfSome (S.left source.old) (λ text. HasAmpleBudget (entries_of book.now) text query → result ≢ 3) }
 
     // Where the words are refused nothing is read. Otherwise the first bytes are read, which are all where the text is answered.
     ensures unread { (fault : WordsFault) → IsRefused (map string_bytes words.now) fault
