@@ -5,7 +5,8 @@ use Rattle.moment_core.specs.Calendar.{day_number, is_leap, month_len, weekday_o
 use Rattle.moment_core.specs.TimeOfDay.{seconds_of}
 use Rattle.moment_core.specs.Units.{is_nth}
 
--- the month has this day, which is of the weekday and is the nth such day, from the month's end where n is negative
+-- the month has this day, which is of the weekday and is the nth such day, from the month's end
+-- where n is negative
 pub record IsNthDay (year : ℤ) (month : ℕ) (n : ℤ) (weekday day : ℕ) : Type 0 where
   pub in_year : IsInRange 1 12 month
   pub in_month : IsInRange 1 (month_len (is_leap year) month) day

@@ -18,8 +18,8 @@ fn second_of_day(hour: u8, minute: u8, second: u8) -> Option<u32>
     }
 }
 
-/// The moment of a date and a time of day. None exactly where the calendar has no such date, the clock no such time, or
-/// the moment isn't in the working range.
+/// The moment of a date and a time of day. None exactly where the calendar has no such date, the
+/// clock no such time, or the moment isn't in the working range.
 pub fn moment(
     year: i32,
     month: u8,

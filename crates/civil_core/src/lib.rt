@@ -1,6 +1,8 @@
-//! The date, time of day and week of a moment, and the moment of a date and a time of day or of the nth weekday of a month.
+//! The date, time of day and week of a moment, and the moment of a date and a time of day or of the
+//! nth weekday of a month.
 //!
-//! The calendar is the proleptic Gregorian one, by the words and laws of `moment_core`; its dates are `jiff`'s.
+//! The calendar is the proleptic Gregorian one, by the words and laws of `moment_core`; its dates
+//! are `jiff`'s.
 #![tactic(auto)]
 
 mod dates;

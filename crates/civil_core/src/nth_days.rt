@@ -37,7 +37,8 @@ fn count_from(year: i32, month: u8, first: u8) -> u8
     }
 }
 
-/// The place, from 0, of the nth of `count`, from the end where `nth` is negative, if there is such a one.
+/// The place, from 0, of the nth of `count`, from the end where `nth` is negative, if there is such
+/// a one.
 fn place_of(nth: i8, count: u8) -> Option<u8>
     ensures some { IsSome result ↔ IsInRange 1 count (unsigned_abs nth) }
     ensures within { IfSome result (λ place. place < count) }
@@ -54,9 +55,9 @@ fn place_of(nth: i8, count: u8) -> Option<u8>
     }
 }
 
-/// The midnight of the nth such weekday of a month, counted from the month's end where `nth` is negative, as the
-/// ordinals of BYDAY are (RFC 5545, 3.3.10). None exactly where the month has no such day in the working range or `nth`
-/// is 0.
+/// The midnight of the nth such weekday of a month, counted from the month's end where `nth` is
+/// negative, as the ordinals of BYDAY are (RFC 5545, 3.3.10). None exactly where the month has no
+/// such day in the working range or `nth` is 0.
 pub fn nth_weekday(year: i32, month: u8, nth: i8, day: Weekday) -> Option<Moment>
     ensures some { IsSome result
         ↔ ((t : ℤ) × IsNthMidnight year month nth day t × IsWorkingMoment t) }

@@ -9,7 +9,8 @@ use moment_core::{Moment, Weekday};
 
 /// The date, the time of day and the week of a moment, in the proleptic Gregorian calendar.
 ///
-/// The year 0 is the one before the year 1. A week counts in the week-year that has at least four of its days.
+/// The year 0 is the one before the year 1. A week counts in the week-year that has at least four
+/// of its days.
 #[derive(Clone, Copy, Debug, PartialEq, Eq)]
 pub struct CivilParts {
     pub year: i32,
@@ -32,8 +33,8 @@ pub struct CivilParts {
     pub weeks: u8,
 }
 
-/// The date, the time of day and the week of a moment, where weeks begin on the weekday `first`: for Monday they are the
-/// weeks of ISO 8601.
+/// The date, the time of day and the week of a moment, where weeks begin on the weekday `first`:
+/// for Monday they are the weeks of ISO 8601.
 pub fn fields(t: Moment, first: Weekday) -> CivilParts
     requires { IsWorkingMoment t.0 }
     ensures year { result.year ≡ year_of (day_of t.0) }

@@ -2,8 +2,8 @@ use crate::{CivilParts, fields, nth_weekday};
 use moment_core::{Moment, Weekday, in_work};
 use std::test::Fail;
 
-/// The moment and the first weekday; then year, month and day; hour, minute and second; weekday, day of the year, days of
-/// the month and of the year; week, week-year and its number of weeks.
+/// The moment and the first weekday; then year, month and day; hour, minute and second; weekday,
+/// day of the year, days of the month and of the year; week, week-year and its number of weeks.
 type Row = (
     i64,
     u8,
@@ -15,7 +15,7 @@ type Row = (
 
 /// From python3's `datetime`, with its `isocalendar` where weeks begin on Monday; a year outside 1 to 9999 by the date that
 /// is a whole number of 400 years, each of 146,097 days, away from it.
-const ROWS: [Row; 32] = [
+const ROWS: &[Row] = &[
     (
         0,
         1,
@@ -277,9 +277,9 @@ const ROWS: [Row; 32] = [
 #[test]
 fn fields_and_moment_agree_with_another_calendar(rt: HostRuntime) -> Result<(), Fail> {
     for (seconds, first, date, time, lengths, weeks) in ROWS {
-        let t = Moment(seconds);
+        let t = Moment(*seconds);
         assert!(rt; in_work(t));
-        let first = Weekday::new(first).ok_or("no weekday")?;
+        let first = Weekday::new(*first).ok_or("no weekday")?;
         let want = CivilParts {
             year: date.0,
             month: date.1,
@@ -304,7 +304,7 @@ fn fields_and_moment_agree_with_another_calendar(rt: HostRuntime) -> Result<(), 
 
 #[test]
 fn moment_refuses_what_names_no_moment_of_the_working_range(rt: HostRuntime) {
-    for (year, month, day, hour, minute, second) in [
+    const REFUSED: &[(i32, u8, u8, u8, u8, u8)] = &[
         (2024, 2, 30, 0, 0, 0),
         (2023, 2, 29, 0, 0, 0),
         (1900, 2, 29, 0, 0, 0),
@@ -322,17 +322,18 @@ fn moment_refuses_what_names_no_moment_of_the_working_range(rt: HostRuntime) {
         (10_000, 1, 1, 0, 0, 0),
         (-2_147_483_648, 1, 1, 0, 0, 0),
         (2_147_483_647, 1, 1, 0, 0, 0),
-    ] {
-        let found = crate::moment(year, month, day, hour, minute, second);
+    ];
+    for (year, month, day, hour, minute, second) in REFUSED {
+        let found = crate::moment(*year, *month, *day, *hour, *minute, *second);
         assert!(rt; found.is_none(), "at {year} {month} {day}");
     }
 }
 
-// From python3's `calendar`, a year outside 1 to 9999 by the one that is a whole number of 400 years away; the last rows lie
-// at the ends of the working range.
+// From python3's `calendar`, a year outside 1 to 9999 by the one that is a whole number of 400
+// years away; the last rows lie at the ends of the working range.
 #[test]
 fn the_nth_weekday_of_a_month_agrees_with_another_calendar(rt: HostRuntime) -> Result<(), Fail> {
-    for (year, month, nth, day, want) in [
+    const NTH: &[(i32, u8, i8, u8, Option<i64>)] = &[
         (2024, 2, 5, 4, Some(1_709_164_800)),
         (2024, 2, -5, 4, Some(1_706_745_600)),
         (2024, 2, 5, 5, None),
@@ -354,9 +355,10 @@ fn the_nth_weekday_of_a_month_agrees_with_another_calendar(rt: HostRuntime) -> R
         (-9990, 1, -2, 6, Some(-377_419_219_200)),
         (9990, 12, 2, 7, Some(253_116_316_800)),
         (9990, 12, 2, 1, None),
-    ] {
-        let day = Weekday::new(day).ok_or("no weekday")?;
-        let found = nth_weekday(year, month, nth, day);
+    ];
+    for (year, month, nth, day, want) in NTH {
+        let day = Weekday::new(*day).ok_or("no weekday")?;
+        let found = nth_weekday(*year, *month, *nth, day);
         assert_eq!(rt; found, want.map(|t| Moment(t)), "at {year} {month} {nth}");
     }
     Ok(())

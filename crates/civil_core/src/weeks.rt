@@ -34,7 +34,8 @@ fn fourth_day(day: i64, first: Weekday) -> Date
     dates::date_of_day(day - weekday.since(library_weekday(first)) as i64 + 3)
 }
 
-/// The week of a day, which counts in the year of its fourth day (ISO 8601 for weeks that begin on Monday).
+/// The week of a day, which counts in the year of its fourth day (ISO 8601 for weeks that begin on
+/// Monday).
 pub(crate) fn week_parts(day: i64, first: Weekday) -> WeekParts
     requires { IsWorkingDay day }
     ensures week { result.week ≡ week_of first day }

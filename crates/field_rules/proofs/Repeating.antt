@@ -10,7 +10,7 @@ use Rattle.moment_core.specs.Sets.{moments_in}
 use Rattle.moment_core.specs.Units.{units_of}
 use Rattle.rule_core.specs.FieldChecks.{is_interval}
 use Rattle.rule_core.specs.FieldMembers.{field_unit, has_field}
-use Rattle.rule_core.specs.Laws.{FieldIntervalFits, FieldRulesRepeat, WeekStartFits}
+use Rattle.rule_core.specs.Laws.{FieldIntervalFits, FieldRulesRepeat}
 use Rattle.field_rules.specs.Laws.{CheckedRulesRepeat}
 use Rattle.field_rules.specs.Leaves.{framed_everywhere}
 use Rattle.field_rules.proofs.RuleLaws.{in_width-is, repeats-by}
@@ -22,8 +22,8 @@ interval-positive n e =
     let least : pos 1 ≤ℤ n = grind (arith, ints) in
     omega (arith, ints, least)
 
-pub checked_rules_repeat : RulesComeRound → FieldRulesRepeat → FieldIntervalFits → WeekStartFits → CheckedRulesRepeat
-checked_rules_repeat round repeats interval week r ok = by_period (in_width (period_of_rule n k)) refl
+pub checked_rules_repeat : RulesComeRound → FieldRulesRepeat → FieldIntervalFits → CheckedRulesRepeat
+checked_rules_repeat round repeats interval r ok = by_period (in_width (period_of_rule n k)) refl
   where
     n : ℕ
     n = units_of (field_unit r)
@@ -37,7 +37,7 @@ checked_rules_repeat round repeats interval week r ok = by_period (in_width (per
     period-later : (t : ℤ) → has_field r (t +ℤ pos (period_of_rule n k)) ≡ has_field r t
     period-later t =
         let (m, j, period, whole) = (round n k some).1 in
-        ap (λ p. has_field r (t +ℤ pos p)) period ∙ repeats r t m j (week r ok) some whole
+        ap (λ p. has_field r (t +ℤ pos p)) period ∙ repeats r t m j some whole
 
     by_period : (o : Option ℕ) → o ≡ in_width (period_of_rule n k) → HasPeriod (framed_everywhere o) × RepeatsIfFramed (moments_in (has_field r)) (framed_everywhere o)
     by_period None e = (tt, tt)

@@ -21,7 +21,8 @@ meaning_of_leaf leaf = record {
   frame = frame_of_rule leaf.inner.sieve;
 }
 
--- the sieve tests what the rule does, in the rule's units, counted from the rule's start, and no rank
+-- the sieve tests what the rule does, in the rule's units, counted from the rule's start, and no
+-- rank
 pub record IsSieveOfRule (r : FieldRule) (s : Sieve) : Type 0 where
   pub unit : s.unit ≡ field_unit r
   pub interval : s.interval ≡ unsigned_abs r.interval

@@ -10,7 +10,10 @@ use Rattle.field_rules.specs.Leaves.{framed_everywhere}
 
 -- a rule repeats everywhere, once both the calendar and the interval have come round
 abbrev pub frame_of_field : FieldRule → Option Frame
-frame_of_field r = framed_everywhere (in_width (period_of_rule (units_of (field_unit r)) (unsigned_abs r.interval)))
+frame_of_field r =
+    framed_everywhere (in_width (period_of_rule (units_of (field_unit r))
+    (unsigned_abs r.interval)))
 
 abbrev pub meaning_of_field : FieldRule → Meaning
-meaning_of_field r = record { member = has_field r; candidate = is_field_candidate r; frame = frame_of_field r }
+meaning_of_field r =
+    record { member = has_field r; candidate = is_field_candidate r; frame = frame_of_field r }

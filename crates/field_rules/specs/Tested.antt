@@ -1,4 +1,5 @@
--- The values that a field rule tests, with first values put in for the fields that it may give and doesn't.
+-- The values that a field rule tests, with first values put in for the fields that it may give and
+-- doesn't.
 use Rattle.std.specs.Prelude.{ℤ, pos, List, [], ◌∷◌, if◌then◌else◌}
 use Rattle.rule_core.specs.FieldChecks.{is_yearly}
 use Rattle.rule_core.specs.Values.{is_given}
@@ -10,7 +11,8 @@ use Rattle.rule_core.specs.declared.field.FieldRule.{FieldRule}
 abbrev pub or_first : List ℤ → List ℤ → List ℤ
 or_first values first = if is_given values then values else first
 
--- what the rule tests, by what its days count: months and days of the month, days of the year, or weeks and weekdays
+-- what the rule tests, by what its days count: months and days of the month, days of the year, or
+-- weeks and weekdays
 abbrev pub yearly_months : FieldRule → List ℤ
 yearly_months r = if is_yearly r.freq then or_first r.months (pos 1 ∷ []) else []
 

@@ -18,8 +18,8 @@ use stored_pair::Guarded;
 
 /// The rule made ready to be searched, over the whole working range.
 ///
-/// The rule is one that `check` accepts, with a start in the calendar range. Its members, its candidates and its
-/// frame are those of the rule. It takes no memory.
+/// The rule is one that `check` accepts, with a start in the calendar range. Its members, its
+/// candidates and its frame are those of the rule. It takes no memory.
 pub fn lower_field(rule: &FieldRule) -> Guarded<FieldLeaf>
     requires checked { check_of rule.now ≡ Ok tt }
     requires start { IsCalendarMoment (start_of rule.now.start) }

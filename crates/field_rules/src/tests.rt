@@ -125,7 +125,7 @@ type Row<'a> = (Freq, &'a [Given<'a>], i64, Near);
 
 #[test]
 fn members_lie_where_another_calendar_puts_them(rt: HostRuntime) {
-    let rows: [Row; 10] = [
+    const ROWS: &[Row<'static>] = &[
         (
             Freq::Monthly,
             &[(Part::Days, &[-1])],
@@ -196,8 +196,8 @@ fn members_lie_where_another_calendar_puts_them(rt: HostRuntime) {
             (Some(-13), Some(13)),
         ),
     ];
-    for (freq, fields, from, expected) in rows {
-        let found = near::<Brand>(rt.alloc(), Blank::new(1), freq, fields, from);
-        assert_eq!(rt; found, Ok(expected));
+    for (freq, fields, from, expected) in ROWS {
+        let found = near::<Brand>(rt.alloc(), Blank::new(1), *freq, fields, *from);
+        assert_eq!(rt; found, Ok(*expected));
     }
 }

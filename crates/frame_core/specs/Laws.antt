@@ -22,18 +22,21 @@ OnePeriodTells =
 -- two sets together repeat with the joined frame
 abbrev pub SetsRepeatTogether : Type 0
 SetsRepeatTogether =
-    (f g : ℤ → Bool) (op : Bool → Bool → Bool) (a b joined : Frame) → IsPeriod a.period → IsPeriod b.period
+    (f g : ℤ → Bool) (op : Bool → Bool → Bool) (a b joined : Frame) → IsPeriod a.period
+    → IsPeriod b.period
     → join_of a b ≡ Some joined → Repeats f a → Repeats g b → Repeats (λ p. op (f p) (g p)) joined
 
 -- whose period is one
 abbrev pub JoinedPeriods : Type 0
 JoinedPeriods =
-    (a b joined : Frame) → IsPeriod a.period → IsPeriod b.period → join_of a b ≡ Some joined → IsPeriod joined.period
+    (a b joined : Frame) → IsPeriod a.period → IsPeriod b.period → join_of a b ≡ Some joined
+    → IsPeriod joined.period
 
 -- what is made of one set's membership alone repeats with its frame
 abbrev pub SetsRepeatApart : Type 0
 SetsRepeatApart =
-    (f : ℤ → Bool) (op : Bool → Bool) (frame : Frame) → Repeats f frame → Repeats (λ p. op (f p)) frame
+    (f : ℤ → Bool) (op : Bool → Bool) (frame : Frame) → Repeats f frame
+    → Repeats (λ p. op (f p)) frame
 
 -- a set that stays the same from `hi` upwards and from `lo` downwards repeats with any period
 abbrev pub ConstantSetsRepeat : Type 0
@@ -64,12 +67,14 @@ pub record IsWindowPast (dir : Dir) (p : ℤ) (w : Window) : Type 0 where
 
 abbrev pub WindowsLie : Type 0
 WindowsLie =
-    (frame : Option Frame) (dir : Dir) (p : ℤ) (w : Window) → window_if_framed frame dir p ≡ Some w → IsWindowPast dir p w
+    (frame : Option Frame) (dir : Dir) (p : ℤ) (w : Window) → window_if_framed frame dir p ≡ Some w
+    → IsWindowPast dir p w
 
 -- where nothing differs from p up to the end of the window, nothing ever does
 abbrev pub WindowsKeep : Type 0
 WindowsKeep =
-    (set : ℤ → Bool) (frame : Option Frame) (dir : Dir) (p : ℤ) (w : Window) → HasPeriod frame → RepeatsIfFramed set frame
+    (set : ℤ → Bool) (frame : Option Frame) (dir : Dir) (p : ℤ) (w : Window) → HasPeriod frame
+    → RepeatsIfFramed set frame
     → window_if_framed frame dir p ≡ Some w
     → ((k : ℕ) → IsUpTo dir (end_of dir (Never w)) (ahead dir p k) → seen set dir p k ≡ set p)
     → (k : ℕ) → seen set dir p k ≡ set p
@@ -77,5 +82,7 @@ WindowsKeep =
 -- so too where the window is the answer of a search
 abbrev pub NeverIsForEver : Type 0
 NeverIsForEver =
-    (set : ℤ → Bool) (frame : Option Frame) (dir : Dir) (p : ℤ) (w : Window) → HasPeriod frame → RepeatsIfFramed set frame
-    → IsCalendarPosition p → IsFound set (window_if_framed frame dir p) dir p (Never w) → (k : ℕ) → seen set dir p k ≡ set p
+    (set : ℤ → Bool) (frame : Option Frame) (dir : Dir) (p : ℤ) (w : Window) → HasPeriod frame
+    → RepeatsIfFramed set frame
+    → IsCalendarPosition p → IsFound set (window_if_framed frame dir p) dir p (Never w) → (k : ℕ)
+    → seen set dir p k ≡ set p

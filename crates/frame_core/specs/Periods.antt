@@ -6,7 +6,8 @@ use Rattle.moment_core.specs.declared.line.TheConstants.{G, WIDTH}
 -- the greatest of the numbers from 1 to n that divides both
 unfoldable pub greatest_up_to : ℕ → ℕ → ℕ → ℕ
 greatest_up_to zero a b = 0
-greatest_up_to (suc n) a b = if a % suc n == 0 && b % suc n == 0 then suc n else greatest_up_to n a b
+greatest_up_to (suc n) a b =
+    if a % suc n == 0 && b % suc n == 0 then suc n else greatest_up_to n a b
 
 -- the greatest common divisor, and the least common multiple
 unfoldable pub greatest_common : ℕ → ℕ → ℕ

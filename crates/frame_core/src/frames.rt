@@ -11,7 +11,8 @@ const FIRST: i64 = 2 * LOW;
 /// The last position of the calendar range.
 const LAST: i64 = 2 * HIGH;
 
-/// From where on a set of positions repeats: from `hi` upwards and from `lo` downwards, after `period` seconds.
+/// From where on a set of positions repeats: from `hi` upwards and from `lo` downwards, after
+/// `period` seconds.
 ///
 /// A period is from 1 second to `WIDTH`; the functions ask for it.
 #[derive(Clone, Copy, Debug, PartialEq, Eq)]
@@ -39,8 +40,8 @@ pub fn join(a: Frame, b: Frame) -> Option<Frame>
     })
 }
 
-/// The window of one period past `p`, and past where the set begins to repeat, that a search for the next
-/// change ends with. None exactly where it leaves the calendar range.
+/// The window of one period past `p`, and past where the set begins to repeat, that a search for
+/// the next change ends with. None exactly where it leaves the calendar range.
 pub fn window(f: Frame, p: Pos, dir: Dir) -> Option<Window>
     requires { IsPeriod f.period }
     ensures { result ≡ window_after f dir p.0 }

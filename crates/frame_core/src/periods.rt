@@ -3,8 +3,9 @@ ghost use Rattle.frame_core.specs.Periods.{greatest_common, in_width, least_comm
 
 use moment_core::{G, WIDTH};
 
-/// After how many seconds a rule repeats that takes every `interval`th of its units, where 400 years have
-/// so many `units`: `G * interval / gcd(interval, units)`. None exactly where that is above `WIDTH`.
+/// After how many seconds a rule repeats that takes every `interval`th of its units, where 400
+/// years have so many `units`: `G * interval / gcd(interval, units)`. None exactly where that is
+/// above `WIDTH`.
 pub fn rule_period(units: u64, interval: u64) -> Option<u64>
     requires units { 1 ≤ units }
     requires interval { 1 ≤ interval }

@@ -155,23 +155,19 @@ week_year_of-cycle first day =
     let e : week_start first (day +ℤ pos 146_097) +ℤ pos 3 ≡ week_start first day +ℤ pos 3 +ℤ pos 146_097 = omega (arith, floor_arith, week_start-cycle first day) in
     rw e (year_of-cycle (week_start first day +ℤ pos 3))
 
-pub week_of-cycle : (first : ℕ) (day : ℤ) → IsInRange 1 7 first → week_of first (day +ℤ pos 146_097) ≡ week_of first day
-week_of-cycle first day h =
-    let one = week_one-cycle first (week_year_of first day) in
-    let year = ap (week_one first) (week_year_of-cycle first day) in
-    let start = week_start-cycle first day in
-    let a = week_of-is first day h in
-    let b = week_of-is first (day +ℤ pos 146_097) h in
-    omega (arith, floor_arith)
+pub week_of-cycle : (first : ℕ) (day : ℤ) → week_of first (day +ℤ pos 146_097) ≡ week_of first day
+unfolding week_of
+week_of-cycle first day =
+    let year = week_year_of first day in
+    let place : day +ℤ pos 146_097 -ℤ (week_one first year +ℤ pos 146_097) ≡ day -ℤ week_one first year = omega (arith, floor_arith) in
+    rw (week_year_of-cycle first day, week_one-cycle first year, place) refl
 
-pub weeks_in_year-cycle : (first : ℕ) (y : ℤ) → IsInRange 1 7 first → weeks_in_year first (y +ℤ pos 400) ≡ weeks_in_year first y
-weeks_in_year-cycle first y h =
-    let here = (weeks_in_year-is first y h).0 in
-    let there = (weeks_in_year-is first (y +ℤ pos 400) h).0 in
-    let one = week_one-cycle first y in
-    let next_one = week_one-cycle first (y +ℤ pos 1) in
-    let same : y +ℤ pos 400 +ℤ pos 1 ≡ y +ℤ pos 1 +ℤ pos 400 = omega (arith, floor_arith) in
-    omega (arith, floor_arith, ap (week_one first) same)
+pub weeks_in_year-cycle : (first : ℕ) (y : ℤ) → weeks_in_year first (y +ℤ pos 400) ≡ weeks_in_year first y
+unfolding weeks_in_year
+weeks_in_year-cycle first y =
+    let next : y +ℤ pos 400 +ℤ pos 1 ≡ y +ℤ pos 1 +ℤ pos 400 = omega (arith, floor_arith) in
+    let length : week_one first (y +ℤ pos 1) +ℤ pos 146_097 -ℤ (week_one first y +ℤ pos 146_097) ≡ week_one first (y +ℤ pos 1) -ℤ week_one first y = omega (arith, floor_arith) in
+    rw (next, week_one-cycle first (y +ℤ pos 1), week_one-cycle first y, length) refl
 
 pub week_number-cycle : (first : ℕ) (day : ℤ) → week_number first (day +ℤ pos 146_097) ≡ week_number first day +ℤ pos 20_871
 unfolding week_number

@@ -35,7 +35,8 @@ unfoldable pub days_of_months : Bool → ℕ → ℕ
 days_of_months leap zero = 0
 days_of_months leap (suc n) = days_of_months leap n + month_len leap (suc n)
 
--- the day number of 1 January: a cycle has 146,097 days, and the cycle of the year 0 began 719,528 days before 1970
+-- the day number of 1 January: a cycle has 146,097 days, and the cycle of the year 0 began 719,528
+-- days before 1970
 unfoldable pub first_day : ℤ → ℤ
 first_day y = floor_div y 400 *ℤ pos 146_097 +ℤ pos (days_of_years (floor_mod y 400)) -ℤ pos 719_528
 
@@ -63,7 +64,8 @@ unfoldable pub month_of : ℤ → ℕ
 month_of day = last_begun (days_of_months (is_leap (year_of day))) 11 (days_into_year day) + 1
 
 unfoldable pub day_of_month : ℤ → ℕ
-day_of_month day = days_into_year day - days_of_months (is_leap (year_of day)) (month_of day - 1) + 1
+day_of_month day =
+    days_into_year day - days_of_months (is_leap (year_of day)) (month_of day - 1) + 1
 
 -- the weekday, from 1 for Monday to 7
 unfoldable pub weekday_of : ℤ → ℕ
@@ -73,7 +75,8 @@ weekday_of day = floor_mod (day +ℤ pos 3) 7 + 1
 unfoldable pub week_start : ℕ → ℤ → ℤ
 week_start first day = day -ℤ pos ((weekday_of day + 7 - first) % 7)
 
--- the first day of week 1 of a year: of the first week with at least four days in it, which is the week of its fourth day
+-- the first day of week 1 of a year: of the first week with at least four days in it, which is the
+-- week of its fourth day
 unfoldable pub week_one : ℕ → ℤ → ℤ
 week_one first y = week_start first (first_day y +ℤ pos 3)
 

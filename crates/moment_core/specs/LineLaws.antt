@@ -9,7 +9,8 @@ use Rattle.moment_core.specs.declared.line.Step.{Step}
 -- no step leads nowhere, and so many steps and then so many more are as many as both
 abbrev pub StepsAdd : Type 0
 StepsAdd =
-    (dir : Dir) (p : ℤ) → (ahead dir p 0 ≡ p) × ((m n : ℕ) → ahead dir (ahead dir p m) n ≡ ahead dir p (m + n))
+    (dir : Dir) (p : ℤ)
+    → (ahead dir p 0 ≡ p) × ((m n : ℕ) → ahead dir (ahead dir p m) n ≡ ahead dir p (m + n))
 
 -- other numbers of steps lead to other places
 abbrev pub StepsTellApart : Type 0
@@ -19,7 +20,8 @@ StepsTellApart = (dir : Dir) (p : ℤ) (m n : ℕ) → ahead dir p m ≡ ahead d
 abbrev pub SightsFollow : Type 0
 SightsFollow =
     (set : ℤ → Bool) (dir : Dir) (p : ℤ)
-    → (seen set dir p 0 ≡ set p) × ((m n : ℕ) → seen set dir (ahead dir p m) n ≡ seen set dir p (m + n))
+    → (seen set dir p 0 ≡ set p)
+    × ((m n : ℕ) → seen set dir (ahead dir p m) n ≡ seen set dir p (m + n))
 
 -- a moment has its own position, and each position is a moment or the open second after one
 abbrev pub PositionsHaveMoments : Type 0
@@ -31,13 +33,15 @@ PositionsHaveMoments =
 abbrev pub RangesHaveNoGaps : Type 0
 RangesHaveNoGaps =
     (dir : Dir) (p : ℤ) (k n : ℕ) → k ≤ n
-    → (IsCalendarPosition p → IsCalendarPosition (ahead dir p n) → IsCalendarPosition (ahead dir p k))
+    → (IsCalendarPosition p → IsCalendarPosition (ahead dir p n)
+    → IsCalendarPosition (ahead dir p k))
     × (IsWorkingMoment p → IsWorkingMoment (ahead dir p n) → IsWorkingMoment (ahead dir p k))
 
 -- a set has one next change at most
 abbrev pub NextChangesAreOne : Type 0
 NextChangesAreOne =
-    (set : ℤ → Bool) (dir : Dir) (p q r : ℤ) → IsNextChange set dir p q → IsNextChange set dir p r → q ≡ r
+    (set : ℤ → Bool) (dir : Dir) (p q r : ℤ) → IsNextChange set dir p q → IsNextChange set dir p r
+    → q ≡ r
 
 -- a step along candidates has one answer at most
 abbrev pub NextStepsAreOne : Type 0

@@ -45,4 +45,5 @@ IsNextBeginning set dir p q = (n : ℕ) × (q ≡ ahead dir p (n + 1)) × Begins
 -- no run begins past p, in the direction, up to the end of the calendar range
 abbrev pub NoneBegins : (ℤ → Bool) → Dir → ℤ → Type 0
 NoneBegins set dir p =
-    (k : ℕ) → IsCalendarPosition (ahead dir p (k + 1)) → seen set dir p (k + 1) ≡ true → seen set dir p k ≡ true
+    (k : ℕ) → IsCalendarPosition (ahead dir p (k + 1)) → seen set dir p (k + 1) ≡ true
+    → seen set dir p k ≡ true

@@ -55,7 +55,7 @@ from_end n v = n + 1 - v
 abbrev pub nth_of : ℕ → ℕ
 nth_of v = (v - 1) / 7 + 1
 
--- n is v's ordinal among those of the days 1 to len that are of its weekday, from the end where n is negative
--- (the ordinals of BYDAY in RFC 5545, 3.3.10)
+-- n is v's ordinal among those of the days 1 to len that are of its weekday, from the end where n
+-- is negative (the ordinals of BYDAY in RFC 5545, 3.3.10)
 abbrev pub is_nth : ℤ → ℕ → ℕ → Bool
 is_nth n len v = int_eq n (pos (nth_of v)) || int_eq n (neg_ℤ (pos (nth_of (from_end len v))))

@@ -1,7 +1,7 @@
 ghost use Rattle.moment_core.specs.CalendarLaws.{YearsHoldDays, YearsFollow, MonthsHoldDays, MonthsFollow, DatesNameDays, TimesNameMoments, WeekdaysFollow, WeeksHoldDays, WeeksFollow, FirstWeeksHaveFourDays, WeekYearsHoldDays, WeekYearsFollow, LaterDaysAreOfLaterUnits, DatesRepeat, WeeksRepeat, TimesRepeat, UnitsRepeat, LaterMomentsAreOfLaterUnits, UnitsAreShort, RangesAreOfYears};
 
-/// The laws that the words of the calendar keep, on all whole numbers (proleptic Gregorian calendar; for weeks that
-/// begin on Monday, the weeks of ISO 8601). It does nothing.
+/// The laws that the words of the calendar keep, on all whole numbers (proleptic Gregorian
+/// calendar; for weeks that begin on Monday, the weeks of ISO 8601). It does nothing.
 pub fn calendar_laws()
     ensures years_hold_days { YearsHoldDays }
     ensures years_follow { YearsFollow }

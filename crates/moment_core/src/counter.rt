@@ -3,7 +3,8 @@ use std::sync::ledger::{Blank, Book, Ledger, Share};
 
 /// How many steps were taken, up to a full count of 2^64 - 1.
 ///
-/// It takes no bytes when the program runs: contracts alone see the number, and only `tick` changes it.
+/// It takes no bytes when the program runs: contracts alone see the number, and only `tick` changes
+/// it.
 #[derive(Drop)]
 pub struct Steps<L: Ledger> {
     book: Book<L>,

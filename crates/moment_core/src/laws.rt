@@ -1,7 +1,7 @@
 ghost use Rattle.moment_core.specs.LineLaws.{StepsAdd, StepsTellApart, SightsFollow, PositionsHaveMoments, RangesHaveNoGaps, NextChangesAreOne, NextStepsAreOne};
 
-/// The laws of steps on the line in either direction, of what is seen on the way, and of the nearest places that a
-/// search finds. It does nothing.
+/// The laws of steps on the line in either direction, of what is seen on the way, and of the
+/// nearest places that a search finds. It does nothing.
 pub fn line_laws()
     ensures steps_add { StepsAdd }
     ensures steps_tell_apart { StepsTellApart }

@@ -1,7 +1,8 @@
 //! The line of moments and positions that every set of this workspace lies on.
 //!
-//! A moment is a whole number of seconds from 1970-01-01T00:00:00, without leap seconds. A position is
-//! a whole number too: `2t` is the moment `t`, and `2t + 1` is the open second between `t` and `t + 1`.
+//! A moment is a whole number of seconds from 1970-01-01T00:00:00, without leap seconds. A position
+//! is a whole number too: `2t` is the moment `t`, and `2t + 1` is the open second between `t` and
+//! `t + 1`.
 #![tactic(auto)]
 
 mod calendar;

@@ -13,8 +13,8 @@ fn a_position_is_twice_its_moment_and_rounds_down_to_it(rt: HostRuntime) {
     }
 }
 
-// `date -u -d 9900-12-31T23:59:59 +%s` gives the last moment of the calendar range; python3's dates give the first one,
-// moved by 12,000 years, which are 30 times 146,097 days.
+// `date -u -d 9900-12-31T23:59:59 +%s` gives the last moment of the calendar range; python3's dates
+// give the first one, moved by 12,000 years, which are 30 times 146,097 days.
 #[test]
 fn the_ranges_hold_their_ends_and_no_more(rt: HostRuntime) {
     for (moment, ranged, working) in [

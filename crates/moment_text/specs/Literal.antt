@@ -16,10 +16,12 @@ sign_of (pos n) = []
 sign_of (negsuc n) = codes "-"
 
 abbrev pub date_text : ℕ → ℕ → ℕ → List ℕ
-date_text year month day = digits_of 4 year ++ codes "-" ++ digits_of 2 month ++ codes "-" ++ digits_of 2 day
+date_text year month day =
+    digits_of 4 year ++ codes "-" ++ digits_of 2 month ++ codes "-" ++ digits_of 2 day
 
 abbrev pub time_text : ℕ → ℕ → ℕ → List ℕ
-time_text hour minute second = digits_of 2 hour ++ codes ":" ++ digits_of 2 minute ++ codes ":" ++ digits_of 2 second
+time_text hour minute second =
+    digits_of 2 hour ++ codes ":" ++ digits_of 2 minute ++ codes ":" ++ digits_of 2 second
 
 -- absolute moments have a Z
 abbrev pub zone_text : Bool → List ℕ
@@ -50,7 +52,8 @@ has_form (mark ∷ form) (b ∷ bytes) = fits mark b && has_form form bytes
 
 -- the form of a literal, with a sign or without and with a Z or without
 abbrev pub form_of : Bool → Bool → List ℕ
-form_of signed absolute = (if signed then codes "-" else []) ++ codes "0000-00-00T00:00:00" ++ zone_text absolute
+form_of signed absolute =
+    (if signed then codes "-" else []) ++ codes "0000-00-00T00:00:00" ++ zone_text absolute
 
 -- The bytes have the form of a moment literal, which may name no moment.
 unfoldable pub is_shaped : List ℕ → Bool

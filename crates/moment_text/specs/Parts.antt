@@ -24,7 +24,11 @@ is_below_zero (negsuc n) = true
 unfoldable pub parts_of : ℤ → Bool → Literal
 parts_of t absolute = record {
   minus = is_below_zero (year_of (day_of t));
-  date = record { year = unsigned_abs (year_of (day_of t)); month = month_of (day_of t); day = day_of_month (day_of t) };
+  date = record {
+    year = unsigned_abs (year_of (day_of t));
+    month = month_of (day_of t);
+    day = day_of_month (day_of t);
+  };
   time = record { hour = hour_of t; minute = minute_of t; second = second_of t };
   absolute = absolute;
 }

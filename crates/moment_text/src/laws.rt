@@ -2,7 +2,8 @@ ghost use Rattle.moment_text.specs.Laws.{LiteralsAreShaped, LiteralsAreShort, Li
 
 use moment_core::calendar_laws;
 
-/// The laws of moment literals: their shape and length, and how far one goes at the front of a text. It does nothing.
+/// The laws of moment literals: their shape and length, and how far one goes at the front of a
+/// text. It does nothing.
 pub fn literal_laws()
     ensures shaped { LiteralsAreShaped }
     ensures short { LiteralsAreShort }

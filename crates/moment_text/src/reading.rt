@@ -99,8 +99,8 @@ fn literal(bytes: &[u8]) -> Option<(Literal, &[u8])>
     unsigned(minus, rest)
 }
 
-/// How many bytes the longest front has that is shaped as a moment literal, or 0 where none is. It may have any digits, and
-/// so name no moment.
+/// How many bytes the longest front has that is shaped as a moment literal, or 0 where none is. It
+/// may have any digits, and so name no moment.
 pub fn shaped_front(bytes: &[u8]) -> usize
     ensures { result ≡ shaped_front bytes.now }
 {
@@ -110,8 +110,8 @@ pub fn shaped_front(bytes: &[u8]) -> usize
     }
 }
 
-/// The moment whose literal the text is, absolute with a `Z` and floating without. None exactly where the text isn't the
-/// literal of a moment of the calendar range.
+/// The moment whose literal the text is, absolute with a `Z` and floating without. None exactly
+/// where the text isn't the literal of a moment of the calendar range.
 pub fn read_moment(text: &[u8]) -> Option<Stamp>
     ensures named { IfSome result (λ s. Names text.now s.moment.0 s.absolute) }
     ensures found { (s : Stamp) → Names text.now s.moment.0 s.absolute → result ≡ Some s }

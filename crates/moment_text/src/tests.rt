@@ -1,11 +1,11 @@
 use crate::*;
 use moment_core::{Moment, Stamp, in_work};
 
-// The seconds are python3's, `datetime(y, m, d, h, n, s) - datetime(1970, 1, 1)`; years outside 1 to 9999 were moved by
-// 400 years and 146,097 days at a time.
+// The seconds are python3's, `datetime(y, m, d, h, n, s) - datetime(1970, 1, 1)`; years outside 1
+// to 9999 were moved by 400 years and 146,097 days at a time.
 #[test]
 fn literals_are_written_and_read_back_as_the_moments_of_python(rt: HostRuntime) {
-    for (text, seconds, absolute) in [
+    const ROWS: &[(&str, i64, bool)] = &[
         ("-9900-01-01T00:00:00", -374_580_979_200, false),
         ("9900-12-31T23:59:59Z", 250_278_163_199, true),
         ("1970-01-01T00:00:00Z", 0, true),
@@ -18,10 +18,11 @@ fn literals_are_written_and_read_back_as_the_moments_of_python(rt: HostRuntime) 
         ("0001-01-01T00:00:00", -62_135_596_800, false),
         ("0987-06-05T04:03:21", -31_007_044_599, false),
         ("2024-09-13T00:00:00", 1_726_185_600, false),
-    ] {
+    ];
+    for (text, seconds, absolute) in ROWS {
         let stamp = Stamp {
-            moment: Moment(seconds),
-            absolute,
+            moment: Moment(*seconds),
+            absolute: *absolute,
         };
         assert_eq!(rt; read_moment(text.as_bytes()), Some(stamp), "{text}");
         assert_eq!(rt; shaped_front(text.as_bytes()), text.len(), "{text}");
@@ -32,7 +33,7 @@ fn literals_are_written_and_read_back_as_the_moments_of_python(rt: HostRuntime) 
 
 #[test]
 fn other_texts_name_no_moment_and_have_these_fronts(rt: HostRuntime) {
-    for (text, front) in [
+    const ROWS: &[(&str, usize)] = &[
         ("-9901-12-31T23:59:59", 20),
         ("9901-01-01T00:00:00Z", 20),
         ("9999-12-31T23:59:59", 19),
@@ -59,8 +60,9 @@ fn other_texts_name_no_moment_and_have_these_fronts(rt: HostRuntime) {
         ("-5", 0),
         ("-", 0),
         ("", 0),
-    ] {
+    ];
+    for (text, front) in ROWS {
         assert_eq!(rt; read_moment(text.as_bytes()), None, "{text}");
-        assert_eq!(rt; shaped_front(text.as_bytes()), front, "{text}");
+        assert_eq!(rt; shaped_front(text.as_bytes()), *front, "{text}");
     }
 }

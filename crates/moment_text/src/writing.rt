@@ -28,7 +28,8 @@ fn put_two(text: &mut ArrayVec<u8, 21>, n: u8)
 fn put_date(text: &mut ArrayVec<u8, 21>, date: &Date)
     requires room { array_vec_len text.old + 10 ≤ 21 }
     requires small { date.now.year < 10_000 }
-    ensures items { text.new.items ≡ text.old.items ++ date_text date.now.year date.now.month date.now.day }
+    ensures items { text.new.items
+        ≡ text.old.items ++ date_text date.now.year date.now.month date.now.day }
     ensures len { array_vec_len text.new ≡ array_vec_len text.old + 10 }
 {
     put_two(text, (date.year / 100) as u8);
@@ -41,7 +42,8 @@ fn put_date(text: &mut ArrayVec<u8, 21>, date: &Date)
 
 fn put_time(text: &mut ArrayVec<u8, 21>, time: &Time)
     requires { array_vec_len text.old + 8 ≤ 21 }
-    ensures items { text.new.items ≡ text.old.items ++ time_text time.now.hour time.now.minute time.now.second }
+    ensures items { text.new.items
+        ≡ text.old.items ++ time_text time.now.hour time.now.minute time.now.second }
     ensures len { array_vec_len text.new ≡ array_vec_len text.old + 8 }
 {
     put_two(text, time.hour);

@@ -41,8 +41,8 @@ pub record MemRoom : Type 0 where
 abbrev pub write_fails : MemRoom → List ℕ → Bool
 write_fails sink piece = is_due sink.plan || nat_lt sink.spare (length piece)
 
--- what contracts see of a `SureSink`: the bytes kept, the room for more, and whether a piece was ever
--- longer than the room
+-- what contracts see of a `SureSink`: the bytes kept, the room for more, and whether a piece was
+-- ever longer than the room
 pub record SureRoom : Type 0 where
   pub kept : List ℕ
   pub spare : ℕ

@@ -31,7 +31,8 @@ impl SureSource {
         SureSource { bytes, at: 0 }
     }
 
-    /// Moves bytes to the front of the buffer, as many as are left and have room, and says how many.
+    /// Moves bytes to the front of the buffer, as many as are left and have room, and says how
+    /// many.
     fn give(&mut self, buf: &mut [u8]) -> usize
         ensures count { result ≡ min (length self.old) (length buf.old) }
         ensures bytes { self.old ≡ take result buf.new ++ self.new }
@@ -66,8 +67,8 @@ impl Source for SureSource {
 
 /// Bytes in memory, whose reads fail at listed numbers.
 ///
-/// Contracts see the bytes left, the numbers of the reads that fail, the number of the next read and the
-/// faults so far.
+/// Contracts see the bytes left, the numbers of the reads that fail, the number of the next read
+/// and the faults so far.
 #[derive(Drop)]
 pub struct MemSource {
     source: SureSource,
@@ -109,7 +110,8 @@ impl Source for MemSource {
     fn read(&mut self, buf: &mut [u8]) -> Got
         requires { 0 < length buf.old }
 
-        // It fails exactly at the listed numbers, and else gives as many bytes as are left and have room.
+        // It fails exactly at the listed numbers, and else gives as many bytes as are left and have
+        // room.
         ensures got { result ≡ (if is_due self.old.plan then Got.Failed
             else got_of (min (length self.old.left) (length buf.old))) }
         ensures bytes { Reads (Some self.old.left) (Some self.new.left) buf.new result }
@@ -117,7 +119,8 @@ impl Source for MemSource {
         // Each read is numbered, and each that fails is a fault.
         ensures failed { IfReadFailed result (Rose self.old.plan.faults self.new.plan.faults) }
         ensures counted { self.old.plan.faults ≤ self.new.plan.faults }
-        ensures plan { self.new.plan ≡ called self.old.plan (count_after_read self.old.plan.faults result) }
+        ensures plan { self.new.plan
+            ≡ called self.old.plan (count_after_read self.old.plan.faults result) }
     {
         if self.plan.call() {
             self.plan.fail();
@@ -158,10 +161,11 @@ impl Store {
     }
 }
 
-/// A sink in memory, whose writes fail at listed numbers and where the piece is longer than the room left.
+/// A sink in memory, whose writes fail at listed numbers and where the piece is longer than the
+/// room left.
 ///
-/// Contracts see the bytes taken, the room left, the numbers of the writes that fail, the number of the
-/// next write and the faults so far.
+/// Contracts see the bytes taken, the room left, the numbers of the writes that fail, the number of
+/// the next write and the faults so far.
 #[derive(Drop)]
 pub struct MemSink {
     store: Store,
@@ -173,15 +177,18 @@ impl Model for MemSink {
 
     ghost Value = { MemRoom };
 
-    ghost view = { λ s. record { kept = s.store.bytes.items; spare = s.store.spare; plan = s.plan } };
+    ghost view = { λ s.
+        record { kept = s.store.bytes.items; spare = s.store.spare; plan = s.plan } };
 }
 
 impl MemSink {
     ghost use Rattle.outside_core.specs.Memory.{planned};
 
-    /// A sink with room for so many bytes, which fails at the writes whose numbers, from 0, stand in `fails`.
+    /// A sink with room for so many bytes, which fails at the writes whose numbers, from 0, stand
+    /// in `fails`.
     pub fn new(alloc: Global, room: usize, fails: Vec<u64>) -> Result<MemSink, AllocError>
-        ensures { IfOk result (λ s. (s.kept ≡ []) × (s.spare ≡ room) × (s.plan ≡ planned fails.items)) }
+        ensures { IfOk result (λ s.
+            (s.kept ≡ []) × (s.spare ≡ room) × (s.plan ≡ planned fails.items)) }
     {
         Ok(MemSink {
             store: Store::new(alloc, room)?,
@@ -214,7 +221,8 @@ impl Sink for MemSink {
     ghost faults = { λ s. s.plan.faults };
 
     fn write(&mut self, piece: &[u8]) -> Put
-        // It fails exactly at the listed numbers and where there is no room, and takes nothing then.
+        // It fails exactly at the listed numbers and where there is no room, and takes nothing
+        // then.
         ensures put { result ≡ (if write_fails self.old piece.now then Put.Failed 0 else Put.All) }
         ensures bytes { Writes (Some self.old.kept) (Some self.new.kept) piece.now result }
         ensures spare { self.new.spare ≡ (if write_fails self.old piece.now then self.old.spare
@@ -223,7 +231,8 @@ impl Sink for MemSink {
         // Each write is numbered, and each that fails is a fault.
         ensures failed { IfWriteFailed result (Rose self.old.plan.faults self.new.plan.faults) }
         ensures counted { self.old.plan.faults ≤ self.new.plan.faults }
-        ensures plan { self.new.plan ≡ called self.old.plan (count_after_write self.old.plan.faults result) }
+        ensures plan { self.new.plan
+            ≡ called self.old.plan (count_after_write self.old.plan.faults result) }
     {
         if self.plan.call() || self.store.spare < piece.len() {
             self.plan.fail();
@@ -236,8 +245,8 @@ impl Sink for MemSink {
 
 /// A sink in memory that never fails.
 ///
-/// From the first piece on that is longer than the room left, it keeps nothing more and tells its bytes
-/// no more. Contracts see the bytes kept, the room left and whether there was such a piece.
+/// From the first piece on that is longer than the room left, it keeps nothing more and tells its
+/// bytes no more. Contracts see the bytes kept, the room left and whether there was such a piece.
 #[derive(Drop)]
 pub struct SureSink {
     store: Store,
@@ -249,7 +258,8 @@ impl Model for SureSink {
 
     ghost Value = { SureRoom };
 
-    ghost view = { λ s. record { kept = s.store.bytes.items; spare = s.store.spare; full = s.full } };
+    ghost view = { λ s.
+        record { kept = s.store.bytes.items; spare = s.store.spare; full = s.full } };
 }
 
 impl SureSink {

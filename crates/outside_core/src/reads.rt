@@ -20,7 +20,8 @@ pub trait Source {
     /// How many faults there were. A count at 2^64 - 1, the last value, counts as risen.
     ghost faults: { Self → ℕ };
 
-    /// Moves the next bytes to the front of the buffer: some, unless none is left or the read fails.
+    /// Moves the next bytes to the front of the buffer: some, unless none is left or the read
+    /// fails.
     ///
     /// What stands behind them in the buffer is left open.
     fn read(&mut self, buf: &mut [u8]) -> Got

@@ -43,7 +43,8 @@ impl<R: Read> Source for StdSource<R> {
             (R.remaining (source_reader self.new)) buf.new result }
 
         // Each read that fails is a fault.
-        ensures failed { IfReadFailed result (Rose (source_faults self.old) (source_faults self.new)) }
+        ensures failed { IfReadFailed result
+            (Rose (source_faults self.old) (source_faults self.new)) }
         ensures counted { source_faults self.old ≤ source_faults self.new }
         ensures faults { source_faults self.new ≡ count_after_read (source_faults self.old) result }
     {
@@ -78,8 +79,8 @@ fn read_some<R: Read>(reader: &mut R, buf: &mut [u8]) -> Option<usize>
 
 /// A writer as a sink, which tells no bytes.
 ///
-/// A write that is interrupted is tried again and is no fault, unless 2^64 - 1 tries were. A write that
-/// takes nothing is one.
+/// A write that is interrupted is tried again and is no fault, unless 2^64 - 1 tries were. A write
+/// that takes nothing is one.
 #[derive(Drop)]
 pub struct StdSink<W> {
     writer: W,
@@ -130,8 +131,8 @@ impl<W: Write> Sink for StdSink<W> {
     }
 }
 
-/// One write, tried again while it is interrupted: how many bytes it took, or None where it failed or
-/// took nothing.
+/// One write, tried again while it is interrupted: how many bytes it took, or None where it failed
+/// or took nothing.
 fn write_some<W: Write>(writer: &mut W, piece: &[u8]) -> Option<usize>
     requires { 0 < length piece.now }
     ensures some { IfSome result (λ n. (0 < n) × (n ≤ length piece.now)

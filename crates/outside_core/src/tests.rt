@@ -53,7 +53,8 @@ fn sinks_in_memory_fail_at_the_listed_writes_and_past_their_room(
     Ok(())
 }
 
-/// A stream whose first call is interrupted. The second moves a byte, the third none, and the others fail.
+/// A stream whose first call is interrupted. The second moves a byte, the third none, and the
+/// others fail.
 #[derive(Drop)]
 struct Faltering {
     calls: u64,

@@ -1,4 +1,5 @@
--- Chains of phases. They are over all relations, which no clause of a function can say, so they are proved here.
+-- Chains of phases. They are over all relations, which no clause of a function can say, so they are
+-- proved here.
 use Rattle.std.specs.Prelude.{◌≡◌, Option, Some, None, Result, Ok, Err, IfSome}
 use Rattle.std.proofs.Common.{refl, sym, ap, ◌∙◌, subst}
 use Rattle.phases.specs.Phases.{By, IsPhase, Then, fails, goes_on}
@@ -7,7 +8,11 @@ use Rattle.phases.specs.Phases.{By, IsPhase, Then, fails, goes_on}
 pub by_phase : {A B F : Type 0} (Given : A → Type 0) (Gives : B → Type 0) (f : A → Result B F)
     → ((a : A) (b : B) → Given a → f a ≡ Ok b → Gives b) → IsPhase Given (By f) Gives
 by_phase Given Gives f gives =
-    record { some = λ a h. (f a, refl); one = λ a r s e d. e ∙ sym d; gives = λ a b h e. gives a b h (sym e) }
+    record {
+      some = λ a h. (f a, refl);
+      one = λ a r s e d. e ∙ sym d;
+      gives = λ a b h e. gives a b h (sym e);
+    }
 
 abbrev value_or : {B F : Type 0} → B → Result B F → B
 value_or b (Ok c) = c
@@ -23,7 +28,8 @@ Fails (Err fault) = Unit {0}
 
 module _ {A B C F : Type 0} (P : A → Result B F → Type 0) (Q : B → Result C F → Type 0) where
   -- where the first phase passes, the next one answers
-  pub passes : (a : A) (b : B) (o : Option (Result C F)) → P a (Ok b) → IfSome o (Q b) → IfSome o (Then P Q a)
+  pub passes : (a : A) (b : B) (o : Option (Result C F)) → P a (Ok b) → IfSome o (Q b)
+      → IfSome o (Then P Q a)
   passes a b None p q = tt
   passes a b (Some r) p q = goes_on b r p q
 
@@ -40,9 +46,12 @@ module _ {A B C F : Type 0} (P : A → Result B F → Type 0) (Q : B → Result 
     some_of a (Ok b) h p = let r = second.some b (first.gives a b h p) in (r.0, goes_on b r.0 p r.1)
 
     one_of : (a : A) (r s : Result C F) → Then P Q a r → Then P Q a s → r ≡ s
-    one_of a r s (fails f p) (fails g q) = ap (λ (x : Result B F). Err (fault_or f x)) (first.one a (Err f) (Err g) p q)
-    one_of a r s (fails f p) (goes_on b _ q k) = absurd (subst Fails (first.one a (Err f) (Ok b) p q) tt)
-    one_of a r s (goes_on b _ p h) (fails g q) = absurd (subst Fails (first.one a (Err g) (Ok b) q p) tt)
+    one_of a r s (fails f p) (fails g q) =
+        ap (λ (x : Result B F). Err (fault_or f x)) (first.one a (Err f) (Err g) p q)
+    one_of a r s (fails f p) (goes_on b _ q k) =
+        absurd (subst Fails (first.one a (Err f) (Ok b) p q) tt)
+    one_of a r s (goes_on b _ p h) (fails g q) =
+        absurd (subst Fails (first.one a (Err g) (Ok b) q p) tt)
     one_of a r s (goes_on b _ p h) (goes_on c _ q k) =
         let same : c ≡ b = ap (value_or c) (first.one a (Ok c) (Ok b) q p) in
         second.one b r s h (subst (λ (x : B). Q x s) same k)
@@ -52,4 +61,9 @@ module _ {A B C F : Type 0} (P : A → Result B F → Type 0) (Q : B → Result 
 
     -- two phases, one behind the other, are a phase
     pub then_phase : IsPhase Given (Then P Q) Gives
-    then_phase = record { some = λ a h. let x = first.some a h in some_of a x.0 h x.1; one = one_of; gives = gives_of }
+    then_phase =
+        record {
+          some = λ a h. let x = first.some a h in some_of a x.0 h x.1;
+          one = one_of;
+          gives = gives_of;
+        }

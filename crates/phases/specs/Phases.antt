@@ -12,7 +12,8 @@ abbrev pub By : {A B F : Type 0} → (A → Result B F) → A → Result B F →
 By f a r = r ≡ f a
 
 -- Over what it is given a phase has one answer, and what it gives is what the next one is given.
-pub record IsPhase {A B F : Type 0} (Given : A → Type 0) (P : A → Result B F → Type 0) (Gives : B → Type 0) : Type 0 where
+pub record IsPhase {A B F : Type 0} (Given : A → Type 0) (P : A → Result B F → Type 0)
+    (Gives : B → Type 0) : Type 0 where
   pub some : (a : A) → Given a → (r : Result B F) × P a r
   pub one : (a : A) (r s : Result B F) → P a r → P a s → r ≡ s
   pub gives : (a : A) (b : B) → Given a → P a (Ok b) → Gives b

@@ -1,2 +1,3 @@
-//! Phases, one behind the other, of which the first that fails decides: definitions and laws, and no code.
+//! Phases, one behind the other, of which the first that fails decides: definitions and laws, and
+//! no code.
 #![tactic(auto)]

@@ -27,8 +27,8 @@ meets_days-cycle : (d : DayTest) (day : ℤ) → IsInRange 1 7 d.first → meets
 unfolding meets_days meets_months meets_weeks meets_year_days meets_month_days meets_weekdays is_nth_weekday
 meets_days-cycle d day first =
     let leap : is_leap (year_of day +ℤ pos 400) ≡ is_leap (year_of day) = is_leap-cycle (year_of day) in
-    let weeks : weeks_in_year d.first (week_year_of d.first day +ℤ pos 400) ≡ weeks_in_year d.first (week_year_of d.first day) = weeks_in_year-cycle d.first (week_year_of d.first day) first in
-    rw (month_of-cycle day, week_of-cycle d.first day first, week_year_of-cycle d.first day, weeks, year_of-cycle day, leap, days_into_year-cycle day, day_of_month-cycle day, weekday_of-cycle day) refl
+    let weeks : weeks_in_year d.first (week_year_of d.first day +ℤ pos 400) ≡ weeks_in_year d.first (week_year_of d.first day) = weeks_in_year-cycle d.first (week_year_of d.first day) in
+    rw (month_of-cycle day, week_of-cycle d.first day, week_year_of-cycle d.first day, weeks, year_of-cycle day, leap, days_into_year-cycle day, day_of_month-cycle day, weekday_of-cycle day) refl
 
 meets_tests-cycle : (s : Sieve) (t : ℤ) → IsInRange 1 7 s.days.first → meets_tests s (t +ℤ pos G) ≡ meets_tests s t
 unfolding meets_tests

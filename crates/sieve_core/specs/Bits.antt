@@ -17,7 +17,8 @@ with_bit words i =
 abbrev pub is_zero : List ℕ → Bool
 is_zero words = list_all (λ word. word == 0) words
 
--- a signed table has v at bit v and -w at bit half + w, with half of its bits; what is looked up is both v and -w
+-- a signed table has v at bit v and -w at bit half + w, with half of its bits; what is looked up is
+-- both v and -w
 unfoldable pub is_in_signed : List ℕ → ℕ → ℕ → Bool
 is_in_signed words v w =
     let half = 32 * length words in

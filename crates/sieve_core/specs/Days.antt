@@ -11,7 +11,8 @@ meets_months months day = (months == 0) || has_bit (months ∷ []) (month_of day
 
 -- the week of its week-year, where weeks begin on the weekday `first`
 unfoldable pub meets_weeks : List ℕ → ℕ → ℤ → Bool
-meets_weeks weeks first day = meets_signed weeks (weeks_in_year first (week_year_of first day)) (week_of first day)
+meets_weeks weeks first day =
+    meets_signed weeks (weeks_in_year first (week_year_of first day)) (week_of first day)
 
 unfoldable pub meets_year_days : List ℕ → ℤ → Bool
 meets_year_days days day = meets_signed days (year_len_of day) (day_of_year day)
@@ -19,7 +20,8 @@ meets_year_days days day = meets_signed days (year_len_of day) (day_of_year day)
 unfoldable pub meets_month_days : ℕ → ℤ → Bool
 meets_month_days days day = meets_signed (days ∷ []) (month_len_of day) (day_of_month day)
 
--- v of n days is the nth of its weekday, from the front or from the end, for an n of the weekday's signed table
+-- v of n days is the nth of its weekday, from the front or from the end, for an n of the weekday's
+-- signed table
 abbrev pub is_nth : List ℕ → ℕ → ℕ → Bool
 is_nth words n v = is_in_signed words (nth_of v) (nth_of (from_end n v))
 

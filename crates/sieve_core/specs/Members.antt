@@ -20,11 +20,13 @@ is_between s t = int_le s.first.0 t && int_le t s.last.0
 -- the hour, the minute and the second each have their bit
 unfoldable pub meets_masks : Sieve → ℕ → ℕ → ℕ → Bool
 meets_masks s hour minute second =
-    has_bit (s.hours ∷ []) hour && has_bit (s.minutes ∷ []) minute && has_bit (s.seconds ∷ []) second
+    has_bit (s.hours ∷ []) hour && has_bit (s.minutes ∷ []) minute
+    && has_bit (s.seconds ∷ []) second
 
 -- the tests of the day and of the time of day
 unfoldable pub meets_tests : Sieve → ℤ → Bool
-meets_tests s t = meets_days s.days (day_of t) && meets_masks s (hour_of t) (minute_of t) (second_of t)
+meets_tests s t =
+    meets_days s.days (day_of t) && meets_masks s (hour_of t) (minute_of t) (second_of t)
 
 -- one of every so many units, from the phase on in both directions
 unfoldable pub meets_interval : Sieve → ℤ → Bool

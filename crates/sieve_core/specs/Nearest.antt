@@ -40,4 +40,5 @@ moment_in None = None
 -- the nearest mark before that midnight, if there is one, meets the tests
 abbrev pub IsNearestOfDay : Sieve → Dir → ℤ → Option ℤ → Type 0
 IsNearestOfDay s dir t (Some u) = IsNearest (is_mark s) dir t u × (meets_tests s u ≡ true)
-IsNearestOfDay s dir t None = (k : ℕ) → k < steps_to_midnight dir t → seen (is_mark s) dir t k ≡ false
+IsNearestOfDay s dir t None =
+    (k : ℕ) → k < steps_to_midnight dir t → seen (is_mark s) dir t k ≡ false

@@ -17,7 +17,8 @@ pub record IsCapped (cap n r : ℕ) : Type 0 where
 
 -- so far from the ends of the working range that no unit leaves it
 abbrev pub IsDeepMoment : ℤ → Type 0
-IsDeepMoment t = ((LOW -ℤ REACH +ℤ pos 34_560_000) ≤ℤ t) × ((t +ℤ pos 34_560_000) ≤ℤ (HIGH +ℤ REACH))
+IsDeepMoment t =
+    ((LOW -ℤ REACH +ℤ pos 34_560_000) ≤ℤ t) × ((t +ℤ pos 34_560_000) ≤ℤ (HIGH +ℤ REACH))
 
 -- a unit of one day or of days
 abbrev pub is_of_days : TimeUnit → Bool
@@ -39,7 +40,8 @@ abbrev pub counted : Sieve → Dir → ℤ → ℕ → Bool
 counted s dir t k = seen (counts_for s t) dir t k
 
 -- the count after some whole days, and the moment at which it goes on
-pub record IsCounted (s : Sieve) (dir : Dir) (t : ℤ) (from day : ℕ) (at : ℤ) (count : ℕ) : Type 0 where
+pub record IsCounted (s : Sieve) (dir : Dir) (t : ℤ) (from day : ℕ) (at : ℤ)
+    (count : ℕ) : Type 0 where
   pub place : at ≡ ahead dir t (86_400 - from + 86_400 * day)
   pub counts : count ≡ count_below (counted s dir t) (86_400 - from + 86_400 * day)
   pub most : count ≤ 86_400 * (day + 1)

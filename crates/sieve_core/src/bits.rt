@@ -30,7 +30,8 @@ pub(crate) fn is_in_signed(words: &[u64], v: usize, w: usize) -> bool
     v < half && has_bit(words, v) || w < half && has_bit(words, half + w)
 }
 
-/// Whether `v` of the numbers from 1 to `n`, which is also `v - n - 1`, meets a signed table; an all-zero one tests nothing.
+/// Whether `v` of the numbers from 1 to `n`, which is also `v - n - 1`, meets a signed table; an
+/// all-zero one tests nothing.
 #[tactic(auto, unfolding(crate::specs::Bits::meets_signed))]
 pub(crate) fn meets_signed(words: &[u64], n: usize, v: usize) -> bool
     requires table { length words.now ≤ 12 }
@@ -40,7 +41,8 @@ pub(crate) fn meets_signed(words: &[u64], n: usize, v: usize) -> bool
     is_zero(words) || is_in_signed(words, v, n - (v - 1))
 }
 
-/// The least bit from one on, counted from the mask's end where the direction is backwards; None where there is none.
+/// The least bit from one on, counted from the mask's end where the direction is backwards; None
+/// where there is none.
 pub(crate) fn first_bit(dir: Dir, mask: u64, len: usize, from: usize) -> Option<usize>
     requires { len ≤ 60 }
     ensures { IsLeastIn (turned_bit dir mask len) from len result }
@@ -56,7 +58,8 @@ pub(crate) fn first_bit(dir: Dir, mask: u64, len: usize, from: usize) -> Option<
     }
 }
 
-// How many steps to the next bit that is set, in the direction; at least as many as there are to the end, where none is.
+// How many steps to the next bit that is set, in the direction; at least as many as there are to
+// the end, where none is.
 fn steps_to_bit(dir: Dir, mask: u64, len: usize, from: usize) -> usize
     requires len { len ≤ 60 }
     requires from { from < len }
@@ -71,7 +74,8 @@ fn steps_to_bit(dir: Dir, mask: u64, len: usize, from: usize) -> usize
     }
 }
 
-// How many steps from a bit up to the next one that is set; as many as there are to the end, where none is.
+// How many steps from a bit up to the next one that is set; as many as there are to the end, where
+// none is.
 fn steps_up(mask: u64, from: usize) -> usize
     requires { from < 64 }
     ensures set { from + result < 64 → has_bit (mask ∷ []) (from + result) ≡ true }

@@ -159,10 +159,11 @@ impl Sieve {
         }
     }
 
-    /// The least candidate after the moment in the working range: `Hit` where it is a member, `Pass` where it
-    /// isn't, and `End` where there is no such candidate.
+    /// The least candidate after the moment in the working range: `Hit` where it is a member,
+    /// `Pass` where it isn't, and `End` where there is no such candidate.
     ///
-    /// The moment may be any of the working range, a candidate or not, also one outside the sieve's ends.
+    /// The moment may be any of the working range, a candidate or not, also one outside the sieve's
+    /// ends.
     pub fn after(&self, t: Moment) -> Step
         requires sieve { IsSieve self.now }
         requires moment { IsWorkingMoment t.0 }
@@ -171,7 +172,8 @@ impl Sieve {
         self.next_candidate(Dir::Fore, t)
     }
 
-    /// The greatest candidate before the moment in the working range, in the same way and of any such moment.
+    /// The greatest candidate before the moment in the working range, in the same way and of any
+    /// such moment.
     pub fn before(&self, t: Moment) -> Step
         requires sieve { IsSieve self.now }
         requires moment { IsWorkingMoment t.0 }

@@ -20,7 +20,8 @@ fn parts_at(t: Moment, first: Weekday) -> CivilParts
     fields(t, first)
 }
 
-// Whether `v` of `n` days is the nth of its weekday, from the front or from the end, for an n of the signed table.
+// Whether `v` of `n` days is the nth of its weekday, from the front or from the end, for an n of
+// the signed table.
 fn is_nth(words: &[u64; 2], n: usize, v: usize) -> bool
     requires { IsInRange 1 n v }
     ensures { result ≡ is_nth words.now n v }

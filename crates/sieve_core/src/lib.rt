@@ -1,5 +1,5 @@
-//! Sieves of moments: sets that are given by tests of the day and the time of day, by an interval of
-//! units, and by a rank within a unit (RFC 5545 3.3.10).
+//! Sieves of moments: sets that are given by tests of the day and the time of day, by an interval
+//! of units, and by a rank within a unit (RFC 5545 3.3.10).
 #![tactic(auto)]
 
 mod bits;

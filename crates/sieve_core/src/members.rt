@@ -83,10 +83,11 @@ impl Sieve {
         self.meets_tests(t) && self.meets_interval(t) && self.meets_rank(t)
     }
 
-    /// Whether the moment is a member: from the sieve's first moment to its last, it meets the tests of the day and the
-    /// time, the interval and the rank.
+    /// Whether the moment is a member: from the sieve's first moment to its last, it meets the
+    /// tests of the day and the time, the interval and the rank.
     ///
-    /// The moment may be any of the working range, also one outside the sieve's ends or outside the calendar range.
+    /// The moment may be any of the working range, also one outside the sieve's ends or outside the
+    /// calendar range.
     #[tactic(auto, unfolding(crate::specs::Members::has))]
     pub fn test(&self, t: Moment) -> bool
         requires sieve { IsSieve self.now }

@@ -176,7 +176,8 @@ impl Sieve {
         }
         check_weekday(self.unit);
         let _first = self.days.first.number();
-        // 400 years on, or back, the rank is the same, and there every unit lies in the working range.
+        // 400 years on, or back, the rank is the same, and there every unit lies in the working
+        // range.
         if t.0 < 0 {
             self.rank_of_deep(dir, cycle_on(t), cap)
         } else {

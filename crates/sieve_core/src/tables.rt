@@ -2,8 +2,8 @@ use moment_core::{Moment, Unit, Weekday};
 
 /// A test of days by tables of bits.
 ///
-/// A signed table has the number `v` at bit `v`, and `-v`, which counts from the end, at bit `half + v`,
-/// where `half` is half the table's bits. An all-zero table tests nothing.
+/// A signed table has the number `v` at bit `v`, and `-v`, which counts from the end, at bit `half
+/// + v`, where `half` is half the table's bits. An all-zero table tests nothing.
 #[derive(Clone, Copy, Debug, PartialEq, Eq)]
 pub struct DayTest {
     /// The month `m` at bit `m`.
@@ -18,8 +18,8 @@ pub struct DayTest {
     pub month_days: u64,
     /// The weekday `w` at bit `w`.
     pub week_days: u8,
-    /// For each weekday, from Monday on, which such days are meant, signed. A day meets `week_days` and `nth`
-    /// together where it meets either; they test nothing where both are zero.
+    /// For each weekday, from Monday on, which such days are meant, signed. A day meets `week_days`
+    /// and `nth` together where it meets either; they test nothing where both are zero.
     pub nth: [[u64; 2]; 7],
     /// Whether `nth` counts the weekdays of a month, or else those of a year.
     pub nth_in_month: bool,

@@ -116,7 +116,8 @@ impl Sieve {
         }
     }
 
-    /// The first second of the day from one on that is met, counted from the day's end where the direction is backwards.
+    /// The first second of the day from one on that is met, counted from the day's end where the
+    /// direction is backwards.
     pub(crate) fn first_second(&self, dir: Dir, from: usize) -> Option<usize>
         requires { from < 86_400 }
         ensures { IsLeastIn (meets_second self.now dir) from 86_400 result }

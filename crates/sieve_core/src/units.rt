@@ -34,7 +34,8 @@ fn week_number(t: Moment, first: Weekday) -> i64
     (t.0.div_euclid(86_400) - (first.number() as i64 + 3) % 7).div_euclid(7)
 }
 
-/// The number of the unit that holds the moment. That of a moment of the calendar range fits a sieve's phase.
+/// The number of the unit that holds the moment. That of a moment of the calendar range fits a
+/// sieve's phase.
 #[tactic(auto, unfolding(moment_core::specs::Units::unit_of))]
 pub fn number(unit: Unit, t: Moment) -> i64
     requires moment { IsWorkingMoment t.0 }

@@ -13,8 +13,9 @@ use Rattle.span_core.specs.declared.answers.Near.TheVariants as nears
 use Rattle.span_core.specs.declared.answers.Stop.{Stop}
 use Rattle.span_core.specs.Bounds.{IsCalendarRun}
 
--- the answer at p, where `window` is the one after which the set repeats, if there is one in the range:
--- the nearest position of the range past p that differs; else the window; else the range's end
+-- the answer at p, where `window` is the one after which the set repeats, if there is one in the
+-- range: the nearest position of the range past p that differs; else the window; else the range's
+-- end
 abbrev pub IsFound : (ℤ → Bool) → Option Window → Dir → ℤ → Answer → Type 0
 IsFound set window dir p (At q) = IsNextChange set dir p q.0 × IsCalendarPosition q.0
 IsFound set window dir p (Never w) = StaysInRange set dir p × (window ≡ Some w)
@@ -42,7 +43,8 @@ counted_to count Back p n = count (p -ℤ pos n) p
 
 -- a search from p may stop n steps on: nothing differs so far, the search has not ended,
 -- and the candidates that were passed are at least the budget
-pub record StopsAt (set : ℤ → Bool) (candidates : ℤ → ℤ → ℕ) (window : Option Window) (dir : Dir) (p : ℤ) (budget : ℕ) (s : Stop) (n : ℕ) : Type 0 where
+pub record StopsAt (set : ℤ → Bool) (candidates : ℤ → ℤ → ℕ) (window : Option Window) (dir : Dir)
+    (p : ℤ) (budget : ℕ) (s : Stop) (n : ℕ) : Type 0 where
   pub search : s.node ≡ 0
   pub later : 0 < n
   pub place : s.at.0 ≡ ahead dir p n
@@ -51,9 +53,10 @@ pub record StopsAt (set : ℤ → Bool) (candidates : ℤ → ℤ → ℕ) (wind
   pub within : (a : Answer) → IsFound set window dir p a → IsUpTo dir (end_of dir a) s.at.0
   pub used : budget ≤ counted_to candidates dir p n
 
--- the answer, or a stop that is due, where `due` says which stops are due in a direction, at a place, for a budget,
--- and `window` gives the window for each direction and place
-abbrev pub IsAnswer : (ℤ → Bool) → (Dir → ℤ → ℕ → Stop → Type 0) → (Dir → ℤ → Option Window) → Dir → ℤ → ℕ → Answer → Type 0
+-- the answer, or a stop that is due, where `due` says which stops are due in a direction, at a
+-- place, for a budget, and `window` gives the window for each direction and place
+abbrev pub IsAnswer : (ℤ → Bool) → (Dir → ℤ → ℕ → Stop → Type 0) → (Dir → ℤ → Option Window) → Dir
+    → ℤ → ℕ → Answer → Type 0
 IsAnswer set due window dir p budget (Budget s) = due dir p budget s
 IsAnswer set due window dir p budget (At q) = IsFound set (window dir p) dir p (At q)
 IsAnswer set due window dir p budget (Never w) = IsFound set (window dir p) dir p (Never w)

@@ -69,7 +69,8 @@ IsOneStretch set = (p q r : ℤ) → p ≤ℤ q → q ≤ℤ r → set p ≡ tru
 abbrev pub is_moment : ℤ → Bool
 is_moment p = int_eq (position_of (moment_of p)) p
 
--- the bounds of a run from its first to its last position: closed at a moment, open at an open second
+-- the bounds of a run from its first to its last position: closed at a moment, open at an open
+-- second
 abbrev pub low_bound : ℤ → Bound
 low_bound p =
     if is_moment p then Closed (record { 0 = moment_of p }) else Open (record { 0 = moment_of p })

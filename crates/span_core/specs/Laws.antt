@@ -1,4 +1,5 @@
--- What the answers of searches owe, over any set of positions, and what the bounds of spans and runs say of positions.
+-- What the answers of searches owe, over any set of positions, and what the bounds of spans and
+-- runs say of positions.
 use Rattle.std.specs.Prelude.{◌≡◌, ◌↔◌, ℤ, ◌≤ℤ◌, Bool, true, int_le, Option, Some, None}
 use Rattle.moment_core.specs.Line.{IsCalendarPosition}
 use Rattle.moment_core.specs.declared.line.Dir.{Dir}
@@ -12,16 +13,19 @@ use Rattle.span_core.specs.declared.bounds.Bound.{Bound}
 -- every search has an answer, and no second one
 abbrev pub SearchesAreAnswered : Type 0
 SearchesAreAnswered =
-    (set : ℤ → Bool) (window : Option Window) (dir : Dir) (p : ℤ) → IsCalendarPosition p → (a : Answer) × IsFound set window dir p a
+    (set : ℤ → Bool) (window : Option Window) (dir : Dir) (p : ℤ) → IsCalendarPosition p
+    → (a : Answer) × IsFound set window dir p a
 
 abbrev pub AnswersAreUnique : Type 0
 AnswersAreUnique =
-    (set : ℤ → Bool) (window : Option Window) (dir : Dir) (p : ℤ) (a b : Answer) → IsFound set window dir p a → IsFound set window dir p b → a ≡ b
+    (set : ℤ → Bool) (window : Option Window) (dir : Dir) (p : ℤ) (a b : Answer)
+    → IsFound set window dir p a → IsFound set window dir p b → a ≡ b
 
 -- between the bounds of a run lie just the run's positions
 abbrev pub RunsHoldTheirPositions : Type 0
 RunsHoldTheirPositions =
-    (first last p : ℤ) → (lies_between (low_bound first) (high_bound last) p ≡ true) ↔ ((first ≤ℤ p) × (p ≤ℤ last))
+    (first last p : ℤ)
+    → (lies_between (low_bound first) (high_bound last) p ≡ true) ↔ ((first ≤ℤ p) × (p ≤ℤ last))
 
 -- a low bound is reached from its first position on, or by all where it has none
 abbrev pub LowBoundsBegin : Type 0

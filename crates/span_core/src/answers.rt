@@ -3,7 +3,8 @@ use moment_core::{Dir, Moment, Pos, Window};
 
 /// Where a search stopped because its budget was used up, and which node of the set stopped it.
 ///
-/// Node 0 is the search itself; the others are numbered from 1 at the root, each before its children, left before right.
+/// Node 0 is the search itself; the others are numbered from 1 at the root, each before its
+/// children, left before right.
 #[derive(Clone, Copy, Debug, PartialEq, Eq)]
 pub struct Stop {
     pub at: Pos,

@@ -75,7 +75,8 @@ impl Span {
         ensures some { IfSome result (λ span. (p : ℤ) → lies_between span.0 span.1 p
             ≡ (lies_between self.now.0 self.now.1 p && lies_between other.now.0 other.now.1 p)) }
         ensures none { IsNone result ↔ ((p : ℤ) →
-            (lies_between self.now.0 self.now.1 p && lies_between other.now.0 other.now.1 p) ≡ false) }
+            (lies_between self.now.0 self.now.1 p
+            && lies_between other.now.0 other.now.1 p) ≡ false) }
     {
         let low = later_low(self.low, other.low);
         let high = earlier_high(self.high, other.high);

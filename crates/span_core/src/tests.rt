@@ -101,7 +101,8 @@ fn runs_are_closed_at_moments_and_open_at_open_seconds(rt: HostRuntime) {
     assert_eq!(rt; run_of(Pos(i64::MIN), Pos(i64::MAX)), whole);
 }
 
-/// The moments at which a span begins and ends, neither of them its own, or None where it goes on for ever.
+/// The moments at which a span begins and ends, neither of them its own, or None where it goes on
+/// for ever.
 type Ends = (Option<i64>, Option<i64>);
 
 /// The open bound at a moment of the calendar range, or no bound.

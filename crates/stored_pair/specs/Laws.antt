@@ -13,7 +13,8 @@ StepsSkipNone =
     (has cand : ℤ → Bool) (dir : Dir) (t : ℤ) (step : Step) → AreCandidates has cand
     → IsWorkingMoment t → IsNextStep has cand dir t step → SkipsNone has dir t step
 
--- of two neighbours, the step after the lesser is the greater, and the step before the greater is the lesser
+-- of two neighbours, the step after the lesser is the greater, and the step before the greater is
+-- the lesser
 abbrev pub NeighboursAreFound : Type 0
 NeighboursAreFound =
     (has cand : ℤ → Bool) (t u : ℤ) (after before : Step) → AreCandidates has cand

@@ -2,7 +2,8 @@
 use Rattle.std.specs.Prelude.{ℕ, ℤ, Bool, false, List, Option, None}
 use Rattle.frame_core.specs.declared.frames.Frame.{Frame}
 
--- which moments are its members and its candidates, and from where on, by which period, the members repeat
+-- which moments are its members and its candidates, and from where on, by which period, the members
+-- repeat
 pub record Meaning : Type 0 where
   pub member : ℤ → Bool
   pub candidate : ℤ → Bool

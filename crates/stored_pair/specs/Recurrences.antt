@@ -20,7 +20,8 @@ NoneUpTo has dir t u =
 abbrev pub SkipsNone : (ℤ → Bool) → Dir → ℤ → Step → Type 0
 SkipsNone has dir t (Hit u) = NoneUpTo has dir t u.0
 SkipsNone has dir t (Pass u) = NoneUpTo has dir t u.0
-SkipsNone has dir t End = (k : ℕ) → 0 < k → IsWorkingMoment (ahead dir t k) → seen has dir t k ≡ false
+SkipsNone has dir t End =
+    (k : ℕ) → 0 < k → IsWorkingMoment (ahead dir t k) → seen has dir t k ≡ false
 
 abbrev pub SkipsNoMember : (ℤ → Bool) → ℤ → Step → Type 0
 SkipsNoMember has t step = SkipsNone has Fore t step

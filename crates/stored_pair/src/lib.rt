@@ -1,5 +1,5 @@
-//! Recurrences: sets of moments that are searched by their candidates; the guard that counts their answers, and the book
-//! of those that a caller hands in, each under a name.
+//! Recurrences: sets of moments that are searched by their candidates; the guard that counts their
+//! answers, and the book of those that a caller hands in, each under a name.
 #![tactic(auto)]
 
 mod catalog;

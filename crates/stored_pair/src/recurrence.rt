@@ -3,8 +3,8 @@ use moment_core::{Moment, Step};
 
 /// A set of moments, and the candidates among which its members are found.
 ///
-/// Every member in the working range is a candidate. The moments given to `test`, `after` and `before` are any of the
-/// working range.
+/// Every member in the working range is a candidate. The moments given to `test`, `after` and
+/// `before` are any of the working range.
 pub trait Recurrence: Drop {
     ghost use Rattle.std.specs.Prelude.{◌≡◌, ℤ, Bool, true, Option, IfSome};
     ghost use Rattle.frame_core.specs.Frames.{IsPeriod, RepeatsIfFramed};
@@ -29,8 +29,9 @@ pub trait Recurrence: Drop {
         ensures value { result ≡ has self.now t.0 }
         ensures candidates { AreCandidates (has self.now) (cand self.now) };
 
-    /// The least candidate after the moment in the working range: `Hit` where it is a member, `Pass` where it isn't, and
-    /// `End` where there is none. Neither a candidate nor a member lies between.
+    /// The least candidate after the moment in the working range: `Hit` where it is a member,
+    /// `Pass` where it isn't, and `End` where there is none. Neither a candidate nor a member lies
+    /// between.
     fn after(&self, t: Moment) -> Step
         requires { IsWorkingMoment t.0 }
         ensures next { IsNext (has self.now) (cand self.now) t.0 result }

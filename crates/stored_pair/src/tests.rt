@@ -52,7 +52,8 @@ impl Recurrence for Once {
     }
 }
 
-// Whether the moment is a member, and the steps after and before it: three steps in all, for the frame isn't counted.
+// Whether the moment is a member, and the steps after and before it: three steps in all, for the
+// frame isn't counted.
 fn look<R: Recurrence, L: Ledger>(
     leaf: &Guarded<R>,
     t: Moment,

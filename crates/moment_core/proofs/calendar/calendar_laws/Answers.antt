@@ -54,8 +54,8 @@ returns-clause-dates_repeat c = (
 
 pub returns-clause-weeks_repeat : goal.returns-clause-weeks_repeat
 returns-clause-weeks_repeat c = λ first h. (
-  λ y. weeks_in_year-cycle first y h,
-  λ day. (week_year_of-cycle first day, week_of-cycle first day h, week_number-cycle first day),
+  λ y. weeks_in_year-cycle first y,
+  λ day. (week_year_of-cycle first day, week_of-cycle first day, week_number-cycle first day),
 )
 
 pub returns-clause-times_repeat : goal.returns-clause-times_repeat
