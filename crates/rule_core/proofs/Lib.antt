@@ -1,4 +1,5 @@
 pub mod Checked
+pub mod IcalRepeating
 pub mod Repeating
 pub mod Untils
 pub mod WeekStarts

@@ -5,7 +5,8 @@ use Rattle.rule_core.specs.declared.part.RuleFault.{RuleFault}
 
 -- the fault whose test is the first to be met
 unfoldable pub first_fault : List (Bool × RuleFault) → Option RuleFault
-first_fault tests = option_map (λ (x : Bool × RuleFault). x.1) (find (λ (x : Bool × RuleFault). x.0) tests)
+first_fault tests =
+    option_map (λ (x : Bool × RuleFault). x.1) (find (λ (x : Bool × RuleFault). x.0) tests)
 
 abbrev pub judged : Option RuleFault → Result (Unit {0}) RuleFault
 judged None = Ok tt

@@ -120,7 +120,8 @@ first_mixed r = find (is_mixed r) keys
 unfoldable pub first_bad : FieldRule → Option Part
 first_bad r = find (is_bad r) keys
 
--- The first fault: a field that the rule may not give, months beside weeks, a value out of its range, the interval.
+-- The first fault: a field that the rule may not give, months beside weeks, a value out of its
+-- range, the interval.
 abbrev pub check_of : FieldRule → Result (Unit {0}) RuleFault
 check_of r =
     judged

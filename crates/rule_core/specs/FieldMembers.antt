@@ -52,7 +52,8 @@ meets_day OfMonth r day =
     && meets r.days (month_len_of day + 1) 1 (day_of_month day)
 meets_day OfWeek r day =
     let first = first_weekday r.week_start in
-    (not (is_given r.weeks) || is_listed r.weeks (weeks_in_year first (week_year_of first day) + 1) (week_of first day))
+    (not (is_given r.weeks)
+    || is_listed r.weeks (weeks_in_year first (week_year_of first day) + 1) (week_of first day))
     && meets r.days 8 first (weekday_of day)
 meets_day Never r day = true
 
@@ -71,13 +72,14 @@ meets_fields r t = meets_day (counted r) r (day_of t) && meets_time r t
 unfoldable pub has_field : FieldRule → ℤ → Bool
 has_field r t =
     meets_fields r t
-    && divides (unsigned_abs r.interval) (unit_of (field_unit r) t -ℤ unit_of (field_unit r) (start_of r.start))
+    && divides (unsigned_abs r.interval)
+    (unit_of (field_unit r) t -ℤ unit_of (field_unit r) (start_of r.start))
 
 -- a moment of the working range
 abbrev pub is_working : ℤ → Bool
 is_working t = int_le (LOW -ℤ REACH) t && int_le t (HIGH +ℤ REACH)
 
--- A place at which a search for members stops: a midnight of the working range, or a moment there that meets the tests
--- of the day and of the time of day. The interval is no part of it.
+-- A place at which a search for members stops: a midnight of the working range, or a moment there
+-- that meets the tests of the day and of the time of day. The interval is no part of it.
 unfoldable pub is_field_candidate : FieldRule → ℤ → Bool
 is_field_candidate r t = is_working t && ((second_of_day t == 0) || meets_fields r t)

@@ -37,7 +37,8 @@ from start = Some (record { moment = record { 0 = start }; absolute = false })
 abbrev pub tells : FieldRule → List ℤ → List ℤ → Bool
 tells r members others = list_all (has_field r) members && not (list_any (has_field r) others)
 
--- Yearly dates: a month and its day, the first ones where none is given, and both counted from the end.
+-- Yearly dates: a month and its day, the first ones where none is given, and both counted from the
+-- end.
 abbrev pub dates_of_year : Bool
 dates_of_year =
     -- yearly()
@@ -49,7 +50,8 @@ dates_of_year =
     (date (pos 2024) 2 1 ∷ [])
     (date (pos 2024) 2 2 ∷ date (pos 2024) 3 1 ∷ [])
     -- yearly(months=-1,-12 days=-1)
-    && tells (record (every freqs.Yearly) { months = neg_ℤ (pos 1) ∷ neg_ℤ (pos 12) ∷ []; days = neg_ℤ (pos 1) ∷ [] })
+    && tells (record (every freqs.Yearly)
+    { months = neg_ℤ (pos 1) ∷ neg_ℤ (pos 12) ∷ []; days = neg_ℤ (pos 1) ∷ [] })
     (date (pos 2023) 12 31 ∷ date (pos 2024) 1 31 ∷ [])
     (date (pos 2023) 11 30 ∷ date (pos 2023) 12 30 ∷ [])
     -- yearly(months=2 days=-1)
@@ -93,7 +95,8 @@ days_of_month =
     (date (pos 2024) 1 31 ∷ date (pos 2024) 1 2 ∷ date (pos 2024) 4 1 ∷ [])
     (date (pos 2024) 4 30 ∷ date (pos 2024) 5 1 ∷ [])
 
--- Weeks of the week-year and their weekdays, from the end too, the first day of the week where none is given.
+-- Weeks of the week-year and their weekdays, from the end too, the first day of the week where none
+-- is given.
 abbrev pub weeks_of_year : Bool
 weeks_of_year =
     -- yearly(weeks=53)
@@ -101,11 +104,13 @@ weeks_of_year =
     (date (pos 2020) 12 28 ∷ date (pos 2026) 12 28 ∷ [])
     (date (pos 2021) 12 27 ∷ date (pos 2020) 12 21 ∷ date (pos 2020) 12 29 ∷ [])
     -- yearly(weeks=-1 days=4 hours=9)
-    && tells (record (every freqs.Yearly) { weeks = neg_ℤ (pos 1) ∷ []; days = pos 4 ∷ []; hours = pos 9 ∷ [] })
+    && tells (record (every freqs.Yearly)
+    { weeks = neg_ℤ (pos 1) ∷ []; days = pos 4 ∷ []; hours = pos 9 ∷ [] })
     (at (pos 2020) 12 31 9 0 0 ∷ at (pos 2021) 12 30 9 0 0 ∷ [])
     (at (pos 2020) 12 24 9 0 0 ∷ at (pos 2020) 12 30 9 0 0 ∷ date (pos 2020) 12 31 ∷ [])
     -- yearly(weeks=-53 days=-1)
-    && tells (record (every freqs.Yearly) { weeks = neg_ℤ (pos 53) ∷ []; days = neg_ℤ (pos 1) ∷ [] })
+    && tells (record (every freqs.Yearly)
+    { weeks = neg_ℤ (pos 53) ∷ []; days = neg_ℤ (pos 1) ∷ [] })
     (date (pos 2020) 1 5 ∷ [])
     (date (pos 2021) 1 10 ∷ date (pos 2021) 1 3 ∷ date (pos 2020) 1 12 ∷ [])
     -- yearly(weeks=1)
@@ -117,11 +122,21 @@ weeks_of_year =
     (date (pos 2023) 12 31 ∷ date (pos 2026) 1 4 ∷ date (pos 2027) 1 3 ∷ date (pos 2024) 12 29 ∷ [])
     (date (pos 2024) 1 1 ∷ date (pos 2025) 12 28 ∷ [])
     -- yearly(weeks=1 days=4 interval=2 start=2024-06-01T00:00:00)
-    && tells (record (every freqs.Yearly) { weeks = pos 1 ∷ []; days = pos 4 ∷ []; interval = pos 2; start = from (date (pos 2024) 6 1) })
+    && tells (record (every freqs.Yearly) {
+      weeks = pos 1 ∷ [];
+      days = pos 4 ∷ [];
+      interval = pos 2;
+      start = from (date (pos 2024) 6 1);
+    })
     (date (pos 2024) 1 4 ∷ date (pos 2026) 1 1 ∷ [])
     (date (pos 2025) 1 2 ∷ date (pos 2027) 1 7 ∷ date (pos 2024) 12 31 ∷ [])
     -- yearly(weeks=1 interval=2 start=2023-12-31T00:00:00 week_start=7)
-    && tells (record (every freqs.Yearly) { weeks = pos 1 ∷ []; interval = pos 2; start = from (date (pos 2023) 12 31); week_start = Some (pos 7) })
+    && tells (record (every freqs.Yearly) {
+      weeks = pos 1 ∷ [];
+      interval = pos 2;
+      start = from (date (pos 2023) 12 31);
+      week_start = Some (pos 7);
+    })
     (date (pos 2023) 12 31 ∷ date (pos 2026) 1 4 ∷ [])
     (date (pos 2024) 12 29 ∷ date (pos 2025) 12 28 ∷ [])
 
@@ -137,19 +152,27 @@ weekdays =
     (date (pos 2023) 12 31 ∷ [])
     (date (pos 2024) 1 1 ∷ date (pos 2024) 1 6 ∷ [])
     -- weekly(days=-1,3 week_start=4)
-    && tells (record (every freqs.Weekly) { days = neg_ℤ (pos 1) ∷ pos 3 ∷ []; week_start = Some (pos 4) })
+    && tells (record (every freqs.Weekly)
+    { days = neg_ℤ (pos 1) ∷ pos 3 ∷ []; week_start = Some (pos 4) })
     (date (pos 2023) 12 31 ∷ date (pos 2024) 1 3 ∷ [])
     (date (pos 2024) 1 4 ∷ date (pos 2024) 1 1 ∷ [])
 
--- Every other week, where weeks begin on Monday, on Sunday, on Thursday and on Friday, from a start or from 1970.
+-- Every other week, where weeks begin on Monday, on Sunday, on Thursday and on Friday, from a start
+-- or from 1970.
 abbrev pub weeks_apart : Bool
 weeks_apart =
     -- weekly(days=1,7 interval=2 start=2024-01-03T00:00:00)
-    tells (record (every freqs.Weekly) { days = pos 1 ∷ pos 7 ∷ []; interval = pos 2; start = from (date (pos 2024) 1 3) })
+    tells (record (every freqs.Weekly)
+    { days = pos 1 ∷ pos 7 ∷ []; interval = pos 2; start = from (date (pos 2024) 1 3) })
     (date (pos 2024) 1 1 ∷ date (pos 2024) 1 7 ∷ date (pos 2024) 1 15 ∷ date (pos 2023) 12 24 ∷ [])
     (date (pos 2024) 1 8 ∷ date (pos 2024) 1 14 ∷ date (pos 2023) 12 31 ∷ [])
     -- weekly(days=1,7 interval=2 start=2024-01-03T00:00:00 week_start=7)
-    && tells (record (every freqs.Weekly) { days = pos 1 ∷ pos 7 ∷ []; interval = pos 2; start = from (date (pos 2024) 1 3); week_start = Some (pos 7) })
+    && tells (record (every freqs.Weekly) {
+      days = pos 1 ∷ pos 7 ∷ [];
+      interval = pos 2;
+      start = from (date (pos 2024) 1 3);
+      week_start = Some (pos 7);
+    })
     (date (pos 2023) 12 31 ∷ date (pos 2024) 1 1 ∷ date (pos 2024) 1 14 ∷ date (pos 2024) 1 15 ∷ [])
     (date (pos 2024) 1 7 ∷ date (pos 2024) 1 8 ∷ date (pos 2023) 12 24 ∷ [])
     -- weekly(interval=2)
@@ -173,11 +196,19 @@ times_of_day =
     (date (pos 2024) 3 10 ∷ [])
     (at (pos 2024) 3 10 1 0 0 ∷ at (pos 2024) 3 10 0 1 0 ∷ at (pos 2024) 3 10 0 0 1 ∷ [])
     -- daily(hours=-1,9 minutes=-1,30 seconds=-59,59)
-    && tells (record (every freqs.Daily) { hours = neg_ℤ (pos 1) ∷ pos 9 ∷ []; minutes = neg_ℤ (pos 1) ∷ pos 30 ∷ []; seconds = neg_ℤ (pos 59) ∷ pos 59 ∷ [] })
+    && tells (record (every freqs.Daily) {
+      hours = neg_ℤ (pos 1) ∷ pos 9 ∷ [];
+      minutes = neg_ℤ (pos 1) ∷ pos 30 ∷ [];
+      seconds = neg_ℤ (pos 59) ∷ pos 59 ∷ [];
+    })
     (at (pos 2024) 3 10 23 59 1 ∷ at (pos 2024) 3 10 9 30 59 ∷ [])
     (at (pos 2024) 3 10 23 59 0 ∷ at (pos 2024) 3 10 9 31 59 ∷ at (pos 2024) 3 10 22 30 59 ∷ [])
     -- daily(hours=-24 minutes=-60 seconds=-60)
-    && tells (record (every freqs.Daily) { hours = neg_ℤ (pos 24) ∷ []; minutes = neg_ℤ (pos 60) ∷ []; seconds = neg_ℤ (pos 60) ∷ [] })
+    && tells (record (every freqs.Daily) {
+      hours = neg_ℤ (pos 24) ∷ [];
+      minutes = neg_ℤ (pos 60) ∷ [];
+      seconds = neg_ℤ (pos 60) ∷ [];
+    })
     (date (pos 2024) 3 10 ∷ [])
     (at (pos 2024) 3 10 1 0 0 ∷ at (pos 2024) 3 10 0 1 0 ∷ [])
     -- hourly(minutes=-15)
@@ -233,31 +264,42 @@ intervals =
 abbrev pub starts : Bool
 starts =
     -- yearly(interval=3 start=2024-12-31T23:59:59)
-    tells (record (every freqs.Yearly) { interval = pos 3; start = from (at (pos 2024) 12 31 23 59 59) })
+    tells (record (every freqs.Yearly)
+    { interval = pos 3; start = from (at (pos 2024) 12 31 23 59 59) })
     (date (pos 2024) 1 1 ∷ date (pos 2021) 1 1 ∷ date (pos 2027) 1 1 ∷ [])
     (date (pos 2022) 1 1 ∷ date (pos 2025) 1 1 ∷ [])
     -- monthly(days=15 interval=2 start=2023-12-31T00:00:00)
-    && tells (record (every freqs.Monthly) { days = pos 15 ∷ []; interval = pos 2; start = from (date (pos 2023) 12 31) })
+    && tells (record (every freqs.Monthly)
+    { days = pos 15 ∷ []; interval = pos 2; start = from (date (pos 2023) 12 31) })
     (date (pos 2023) 12 15 ∷ date (pos 2023) 10 15 ∷ date (pos 2024) 2 15 ∷ [])
     (date (pos 2024) 1 15 ∷ date (pos 2023) 11 15 ∷ [])
     -- daily(interval=2 start=2024-02-29T13:00:00)
-    && tells (record (every freqs.Daily) { interval = pos 2; start = from (at (pos 2024) 2 29 13 0 0) })
+    && tells (record (every freqs.Daily)
+    { interval = pos 2; start = from (at (pos 2024) 2 29 13 0 0) })
     (date (pos 2024) 2 29 ∷ date (pos 2024) 2 27 ∷ date (pos 2024) 3 2 ∷ [])
     (date (pos 2024) 3 1 ∷ date (pos 2024) 2 28 ∷ [])
     -- hourly(interval=2 start=2024-01-01T03:30:00)
-    && tells (record (every freqs.Hourly) { interval = pos 2; start = from (at (pos 2024) 1 1 3 30 0) })
+    && tells (record (every freqs.Hourly)
+    { interval = pos 2; start = from (at (pos 2024) 1 1 3 30 0) })
     (at (pos 2024) 1 1 3 0 0 ∷ at (pos 2024) 1 1 1 0 0 ∷ [])
     (at (pos 2024) 1 1 2 0 0 ∷ [])
     -- minutely(interval=2 start=2024-01-01T00:01:30)
-    && tells (record (every freqs.Minutely) { interval = pos 2; start = from (at (pos 2024) 1 1 0 1 30) })
+    && tells (record (every freqs.Minutely)
+    { interval = pos 2; start = from (at (pos 2024) 1 1 0 1 30) })
     (at (pos 2024) 1 1 0 1 0 ∷ at (pos 2023) 12 31 23 59 0 ∷ [])
     (at (pos 2024) 1 1 0 2 0 ∷ [])
     -- daily(hours=-1 minutes=-1 seconds=-1 interval=2)
-    && tells (record (every freqs.Daily) { hours = neg_ℤ (pos 1) ∷ []; minutes = neg_ℤ (pos 1) ∷ []; seconds = neg_ℤ (pos 1) ∷ []; interval = pos 2 })
+    && tells (record (every freqs.Daily) {
+      hours = neg_ℤ (pos 1) ∷ [];
+      minutes = neg_ℤ (pos 1) ∷ [];
+      seconds = neg_ℤ (pos 1) ∷ [];
+      interval = pos 2;
+    })
     (at (pos 1970) 1 1 23 59 59 ∷ [])
     (at (pos 1970) 1 2 23 59 59 ∷ [])
     -- secondly(interval=2 start=2024-01-01T00:00:01)
-    && tells (record (every freqs.Secondly) { interval = pos 2; start = from (at (pos 2024) 1 1 0 0 1) })
+    && tells (record (every freqs.Secondly)
+    { interval = pos 2; start = from (at (pos 2024) 1 1 0 0 1) })
     (at (pos 2024) 1 1 0 0 1 ∷ at (pos 2023) 12 31 23 59 59 ∷ [])
     (date (pos 2024) 1 1 ∷ [])
 
@@ -282,9 +324,11 @@ before_year_0 =
     (date (neg_ℤ (pos 9899)) 1 3 ∷ date (neg_ℤ (pos 9899)) 1 17 ∷ [])
     (date (neg_ℤ (pos 9899)) 1 10 ∷ date (neg_ℤ (pos 9899)) 1 4 ∷ [])
     -- monthly(days=-1 hours=-1 interval=7)
-    && tells (record (every freqs.Monthly) { days = neg_ℤ (pos 1) ∷ []; hours = neg_ℤ (pos 1) ∷ []; interval = pos 7 })
+    && tells (record (every freqs.Monthly)
+    { days = neg_ℤ (pos 1) ∷ []; hours = neg_ℤ (pos 1) ∷ []; interval = pos 7 })
     (at (neg_ℤ (pos 1)) 7 31 23 0 0 ∷ [])
-    (at (neg_ℤ (pos 1)) 1 31 23 0 0 ∷ at (neg_ℤ (pos 1)) 12 31 23 0 0 ∷ at (neg_ℤ (pos 1)) 12 31 22 0 0 ∷ [])
+    (at (neg_ℤ (pos 1)) 1 31 23 0 0 ∷ at (neg_ℤ (pos 1)) 12 31 23 0 0
+    ∷ at (neg_ℤ (pos 1)) 12 31 22 0 0 ∷ [])
     -- secondly(interval=86401)
     && tells (record (every freqs.Secondly) { interval = pos 86_401 })
     (at (neg_ℤ (pos 1)) 12 30 16 7 59 ∷ at (neg_ℤ (pos 1)) 12 31 16 8 0 ∷ [])

@@ -49,7 +49,11 @@ unfoldable pub mixes_of : IcalRule → List (Bool × RuleFault)
 mixes_of r =
     (is_some r.until && is_some r.count, BadMix parts.Until parts.Count)
     ∷ (is_given r.by_week && not (is_yearly r.freq), BadMix parts.ByWeekNo parts.Freq)
-    ∷ (is_given r.by_year_day && (is_daily r.freq || is_weekly r.freq || is_monthly r.freq), BadMix parts.ByYearDay parts.Freq)
+    ∷ (
+      is_given r.by_year_day
+          && (is_daily r.freq || is_weekly r.freq || is_monthly r.freq),
+      BadMix parts.ByYearDay parts.Freq,
+    )
     ∷ (is_given r.by_month_day && is_weekly r.freq, BadMix parts.ByMonthDay parts.Freq)
     ∷ (has_ordinals r && not (is_monthly r.freq || is_yearly r.freq), BadMix parts.ByDay parts.Freq)
     ∷ (has_ordinals r && is_given r.by_week, BadMix parts.ByDay parts.ByWeekNo)
@@ -64,7 +68,8 @@ is_until m = is_within (seconds_of (pos 0) 1 1 0 0 0) (seconds_of (pos 9999) 12 
 -- the parts that have ranges, in the order of the written form
 abbrev pub ranged : List Part
 ranged =
-    parts.Until ∷ parts.Count ∷ parts.ByMonth ∷ parts.ByWeekNo ∷ parts.ByYearDay ∷ parts.ByMonthDay ∷ parts.ByDay
+    parts.Until ∷ parts.Count ∷ parts.ByMonth ∷ parts.ByWeekNo ∷ parts.ByYearDay ∷ parts.ByMonthDay
+    ∷ parts.ByDay
     ∷ parts.ByHour ∷ parts.ByMinute ∷ parts.BySecond ∷ parts.BySetPos ∷ []
 
 -- some value isn't from the lowest to the highest one, or not 1 to n or -1 to -n

@@ -19,7 +19,8 @@ use Rattle.rule_core.specs.Values.{is_given, is_listed}
 abbrev pub ical_unit : IcalRule → TimeUnit
 ical_unit r = unit_by r.freq r.week_start (is_given r.by_week)
 
--- a part that is given lists the own value, one below 0 counted back from the base; from 0 nothing counts back
+-- a part that is given lists the own value, one below 0 counted back from the base; from 0 nothing
+-- counts back
 unfoldable pub meets_part : List ℤ → ℕ → ℕ → Bool
 meets_part values base own = not (is_given values) || is_listed values base own
 
@@ -39,9 +40,10 @@ is_day_item in_month day item =
 abbrev pub lacks_days : IcalRule → Bool
 lacks_days r = not (is_given r.by_day || is_given r.by_month_day || is_given r.by_year_day)
 
--- What isn't given is taken from the first moment: the second, the minute and the hour, unless the rule repeats within them;
--- the weekday with WEEKLY; the day of the month with MONTHLY, unless weekdays are given; and with YEARLY, where no part tells
--- the day, the weekday if weeks are given, or else the day of the month and the month.
+-- What isn't given is taken from the first moment: the second, the minute and the hour, unless the
+-- rule repeats within them; the weekday with WEEKLY; the day of the month with MONTHLY, unless
+-- weekdays are given; and with YEARLY, where no part tells the day, the weekday if weeks are given,
+-- or else the day of the month and the month.
 abbrev pub takes_weekday : IcalRule → Bool
 takes_weekday r = is_weekly r.freq || (is_yearly r.freq && lacks_days r && is_given r.by_week)
 
@@ -59,8 +61,10 @@ filled r =
     let start = r.start.moment.0 in
     record r {
       by_month = or_taken (takes_date r) (pos (month_of (day_of start))) r.by_month;
-      by_month_day = or_taken (takes_month_day r) (pos (day_of_month (day_of start))) r.by_month_day;
-      by_day = or_taken (takes_weekday r) (record { nth = pos 0; day = weekday_of (day_of start) }) r.by_day;
+      by_month_day =
+          or_taken (takes_month_day r) (pos (day_of_month (day_of start))) r.by_month_day;
+      by_day = or_taken (takes_weekday r)
+          (record { nth = pos 0; day = weekday_of (day_of start) }) r.by_day;
       by_hour = or_taken (has_hours r.freq) (pos (hour_of start)) r.by_hour;
       by_minute = or_taken (has_minutes r.freq) (pos (minute_of start)) r.by_minute;
       by_second = or_taken (has_seconds r.freq) (pos (second_of start)) r.by_second;
@@ -68,20 +72,23 @@ filled r =
 
 unfoldable pub meets_by_day : IcalRule → ℤ → Bool
 meets_by_day r day =
-    not (is_given r.by_day) || list_any (is_day_item (is_monthly r.freq || is_given r.by_month) day) r.by_day
+    not (is_given r.by_day)
+    || list_any (is_day_item (is_monthly r.freq || is_given r.by_month) day) r.by_day
 
 -- the BY parts that test the day, and those that test the time of day
 unfoldable pub meets_by_date : IcalRule → ℤ → Bool
 meets_by_date r day =
     meets_part r.by_month 0 (month_of day)
-    && meets_part r.by_week (weeks_in_year r.week_start (week_year_of r.week_start day) + 1) (week_of r.week_start day)
+    && meets_part r.by_week (weeks_in_year r.week_start (week_year_of r.week_start day) + 1)
+    (week_of r.week_start day)
     && meets_part r.by_year_day (year_len_of day + 1) (day_of_year day)
     && meets_part r.by_month_day (month_len_of day + 1) (day_of_month day)
     && meets_by_day r day
 
 unfoldable pub meets_by_time : IcalRule → ℤ → Bool
 meets_by_time r t =
-    meets_part r.by_hour 0 (hour_of t) && meets_part r.by_minute 0 (minute_of t) && meets_part r.by_second 0 (second_of t)
+    meets_part r.by_hour 0 (hour_of t) && meets_part r.by_minute 0 (minute_of t)
+    && meets_part r.by_second 0 (second_of t)
 
 -- every BY part but BYSETPOS, and every default
 unfoldable pub meets_parts : IcalRule → ℤ → Bool
@@ -102,7 +109,8 @@ is_by (Some last) t = int_le t last.0
 unfoldable pub has_uncounted : IcalRule → ℤ → Bool
 has_uncounted r t =
     int_le r.start.moment.0 t
-    && divides (unsigned_abs r.interval) (unit_of (ical_unit r) t -ℤ unit_of (ical_unit r) r.start.moment.0)
+    && divides (unsigned_abs r.interval)
+    (unit_of (ical_unit r) t -ℤ unit_of (ical_unit r) r.start.moment.0)
     && meets_parts r t && meets_set_pos r t && is_by r.until t
 
 abbrev pub is_within_count : Option ℤ → ℕ → Bool
@@ -111,4 +119,5 @@ is_within_count (Some count) n = int_le (pos n) count
 
 -- the members: of those without COUNT, the first so many
 unfoldable pub has_ical : IcalRule → ℤ → Bool
-has_ical r t = has_uncounted r t && is_within_count r.count (count_to (has_uncounted r) r.start.moment.0 t)
+has_ical r t =
+    has_uncounted r t && is_within_count r.count (count_to (has_uncounted r) r.start.moment.0 t)

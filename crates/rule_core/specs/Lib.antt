@@ -8,3 +8,4 @@ pub mod IcalRows
 pub mod Laws
 pub mod Parts
 pub mod Values
+pub mod WrittenForm

@@ -8,11 +8,13 @@ use crate::lists::Signed;
 use crate::part::{Freq, Part, RuleFault};
 use moment_core::Stamp;
 
-/// A rule by fields of a moment, such as months, days and hours, after Perl's DateTime::Event::Recurrence.
+/// A rule by fields of a moment, such as months, days and hours, after Perl's
+/// DateTime::Event::Recurrence.
 ///
-/// A moment is a member where it meets every field and a whole number of intervals lies between its unit, such as its month, and
-/// that of `start`. A value below 0 counts from the end: -1 is the last day of the month. A field that the rule may give and
-/// doesn't has its first value; a list without values isn't given.
+/// A moment is a member where it meets every field and a whole number of intervals lies between its
+/// unit, such as its month, and that of `start`. A value below 0 counts from the end: -1 is the
+/// last day of the month. A field that the rule may give and doesn't has its first value; a list
+/// without values isn't given.
 #[derive(Debug, Drop)]
 pub struct FieldRule {
     pub freq: Freq,
@@ -128,7 +130,8 @@ impl FieldRule {
         }
     }
 
-    /// What the days of the rule count: with weeks they are weekdays, with months days of the month.
+    /// What the days of the rule count: with weeks they are weekdays, with months days of the
+    /// month.
     pub fn counted(&self) -> Counted
         ensures { result ≡ counted self.now }
     {
@@ -177,10 +180,11 @@ impl FieldRule {
         KEYS.iter().copied().find(|key| self.is_bad(*key))
     }
 
-    /// The first fault of the rule, in this order: `BadMix` of the frequency and the first field that such a rule may not give;
-    /// `BadMix` of months and weeks where both are given; `BadValue` of the first field with a value out of its range;
-    /// `BadInterval` where the interval isn't 1 to 1,000,000,000. Fields come in the order months, weeks, days, hours, minutes,
-    /// seconds, week_start.
+    /// The first fault of the rule, in this order: `BadMix` of the frequency and the first field
+    /// that such a rule may not give; `BadMix` of months and weeks where both are given; `BadValue`
+    /// of the first field with a value out of its range; `BadInterval` where the interval isn't 1
+    /// to 1,000,000,000. Fields come in the order months, weeks, days, hours, minutes, seconds,
+    /// week_start.
     pub fn check(&self) -> Result<(), RuleFault>
         ensures { result ≡ check_of self.now }
     {

@@ -12,9 +12,10 @@ use moment_core::{Moment, Stamp, Weekday};
 
 /// A recurrence rule of RFC 5545 (3.3.10) with its first moment, DTSTART.
 ///
-/// Each BY part that is given is a test of the moment's own fields, whatever the frequency; what isn't given is taken from the
-/// first moment where a rule of the frequency needs it. BYSETPOS ranks the moments of one unit that meet these tests. The first
-/// moment is a member only where it meets the rule. A list without values isn't given.
+/// Each BY part that is given is a test of the moment's own fields, whatever the frequency; what
+/// isn't given is taken from the first moment where a rule of the frequency needs it. BYSETPOS
+/// ranks the moments of one unit that meet these tests. The first moment is a member only where it
+/// meets the rule. A list without values isn't given.
 #[derive(Debug, Drop)]
 pub struct IcalRule {
     pub freq: Freq,
@@ -77,7 +78,8 @@ fn is_until(m: &Moment) -> bool
 }
 
 impl DayItem {
-    fn has_ordinal(&self) -> bool
+    /// Whether it is the nth such day, not the weekday by itself.
+    pub fn has_ordinal(&self) -> bool
         ensures { result ≡ has_ordinal self.now }
     {
         self.nth != 0
@@ -91,19 +93,22 @@ impl DayItem {
 }
 
 impl Freq {
-    fn is_yearly(self) -> bool
+    /// Whether it is YEARLY.
+    pub fn is_yearly(self) -> bool
         ensures { result ≡ is_yearly self }
     {
         matches!(self, Freq::Yearly)
     }
 
-    fn is_monthly(self) -> bool
+    /// Whether it is MONTHLY.
+    pub fn is_monthly(self) -> bool
         ensures { result ≡ is_monthly self }
     {
         matches!(self, Freq::Monthly)
     }
 
-    fn is_weekly(self) -> bool
+    /// Whether it is WEEKLY.
+    pub fn is_weekly(self) -> bool
         ensures { result ≡ is_weekly self }
     {
         matches!(self, Freq::Weekly)
@@ -220,11 +225,12 @@ impl IcalRule {
         RANGED.iter().copied().find(|part| self.is_bad_part(*part))
     }
 
-    /// The first fault of the rule, in this order: `BadMix` of two parts that don't go together (UNTIL and COUNT; BYWEEKNO, and
-    /// BYYEARDAY, BYMONTHDAY or an ordinal in BYDAY, with a frequency that has none of them; an ordinal and BYWEEKNO; BYSETPOS
-    /// without another BY part; UNTIL with a `Z` and a floating DTSTART); `BadValue` of the first part with a value out of its
-    /// range, UNTIL being of the years 0000 to 9999; `BadInterval` where the interval isn't 1 to 1,000,000,000. The source is
-    /// RFC 5545, 3.3.10.
+    /// The first fault of the rule, in this order: `BadMix` of two parts that don't go together
+    /// (UNTIL and COUNT; BYWEEKNO, and BYYEARDAY, BYMONTHDAY or an ordinal in BYDAY, with a
+    /// frequency that has none of them; an ordinal and BYWEEKNO; BYSETPOS without another BY part;
+    /// UNTIL with a `Z` and a floating DTSTART); `BadValue` of the first part with a value out of
+    /// its range, UNTIL being of the years 0000 to 9999; `BadInterval` where the interval isn't 1
+    /// to 1,000,000,000. The source is RFC 5545, 3.3.10.
     pub fn check(&self) -> Result<(), RuleFault>
         ensures { result ≡ check_ical self.now }
     {

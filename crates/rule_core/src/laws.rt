@@ -1,6 +1,6 @@
-ghost use Rattle.rule_core.specs.Laws.{FieldIntervalFits, FieldKeysFit, FieldRulesRepeat, FieldValuesFit, IcalIntervalFits, IcalPartsFit, IcalValuesFit, UntilsAreOfYears, WeekStartFits};
+ghost use Rattle.rule_core.specs.Laws.{FieldIntervalFits, FieldKeysFit, FieldRulesRepeat, FieldValuesFit, IcalIntervalFits, IcalPartsFit, IcalRulesRepeat, IcalValuesFit, UntilsAreOfYears, WeekStartFits};
 
-/// What a rule keeps to that `check` takes, and that field rules repeat with the calendar.
+/// What a rule keeps to that `check` takes, and that rules repeat with the calendar.
 pub fn rule_laws()
     ensures field_values { FieldValuesFit }
     ensures field_keys { FieldKeysFit }
@@ -11,4 +11,5 @@ pub fn rule_laws()
     ensures until { UntilsAreOfYears }
     ensures ical_parts { IcalPartsFit }
     ensures ical_interval { IcalIntervalFits }
+    ensures ical_repeats { IcalRulesRepeat }
 {}

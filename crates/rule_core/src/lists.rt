@@ -41,7 +41,8 @@ impl Signed {
     }
 }
 
-/// A weekday by itself, where `nth` is 0, or the nth such day, counted from the end where `nth` is below 0.
+/// A weekday by itself, where `nth` is 0, or the nth such day, counted from the end where `nth` is
+/// below 0.
 #[derive(Clone, Copy, Debug, PartialEq, Eq)]
 pub struct DayItem {
     pub nth: i64,

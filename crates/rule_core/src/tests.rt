@@ -148,8 +148,7 @@ const KEYS: [Part; 7] = [
 
 #[test]
 fn each_frequency_takes_its_own_fields(rt: HostRuntime) -> Result<(), Fail> {
-    let alloc = rt.alloc();
-    let rows: [(Freq, Part, [bool; 7]); 7] = [
+    const ROWS: &[(Freq, Part, [bool; 7])] = &[
         (
             Freq::Yearly,
             Part::Yearly,
@@ -182,13 +181,14 @@ fn each_frequency_takes_its_own_fields(rt: HostRuntime) -> Result<(), Fail> {
         ),
         (Freq::Secondly, Part::Secondly, [false; 7]),
     ];
-    for (freq, name, taken) in rows {
+    let alloc = rt.alloc();
+    for (freq, name, taken) in ROWS {
         for (key, is_taken) in KEYS.iter().zip(taken.iter()) {
-            let rule = field_rule(alloc, &[Of(freq), Value(*key, 1)])?;
+            let rule = field_rule(alloc, &[Of(*freq), Value(*key, 1)])?;
             let want = if *is_taken {
                 Ok(())
             } else {
-                Err(BadMix(name, *key))
+                Err(BadMix(*name, *key))
             };
             assert_eq!(rt; rule.check(), want);
         }
@@ -198,8 +198,7 @@ fn each_frequency_takes_its_own_fields(rt: HostRuntime) -> Result<(), Fail> {
 
 #[test]
 fn field_faults_come_where_and_in_the_order_they_should(rt: HostRuntime) -> Result<(), Fail> {
-    let alloc = rt.alloc();
-    let rows: [Row; 44] = [
+    const ROWS: &[Row<'static>] = &[
         (&[], Ok(())),
         (&[Value(Part::Months, 12)], Ok(())),
         (&[Value(Part::Months, -12)], Ok(())),
@@ -299,9 +298,10 @@ fn field_faults_come_where_and_in_the_order_they_should(rt: HostRuntime) -> Resu
             Err(BadValue(Part::WeekStart)),
         ),
     ];
-    for (given, want) in rows {
+    let alloc = rt.alloc();
+    for (given, want) in ROWS {
         let rule = field_rule(alloc, given)?;
-        assert_eq!(rt; rule.check(), want);
+        assert_eq!(rt; rule.check(), *want);
     }
     Ok(())
 }
@@ -313,8 +313,7 @@ const LAST: i64 = 253_402_300_799;
 
 #[test]
 fn rfc_5545_faults_come_where_and_in_the_order_they_should(rt: HostRuntime) -> Result<(), Fail> {
-    let alloc = rt.alloc();
-    let rows: [Row; 74] = [
+    const ROWS: &[Row<'static>] = &[
         (&[], Ok(())),
         (&[Until(FIRST)], Ok(())),
         (&[Until(LAST)], Ok(())),
@@ -546,9 +545,10 @@ fn rfc_5545_faults_come_where_and_in_the_order_they_should(rt: HostRuntime) -> R
             Err(BadValue(Part::BySetPos)),
         ),
     ];
-    for (given, want) in rows {
+    let alloc = rt.alloc();
+    for (given, want) in ROWS {
         let rule = ical_rule(alloc, given)?;
-        assert_eq!(rt; rule.check(), want);
+        assert_eq!(rt; rule.check(), *want);
     }
     Ok(())
 }

@@ -1,4 +1,5 @@
 use Rattle.rule_core.proofs.Checked.{field_interval_fits, field_keys_fit, field_values_fit, ical_interval_fits, ical_parts_fit, ical_values_fit}
+use Rattle.rule_core.proofs.IcalRepeating.{has_uncounted-cycles}
 use Rattle.rule_core.proofs.Repeating.{has_field-cycles}
 use Rattle.rule_core.proofs.Untils.{untils_are_of_years}
 use Rattle.rule_core.proofs.WeekStarts.{week_start_fits}
@@ -30,3 +31,6 @@ returns-clause-ical_interval c = ical_interval_fits
 
 pub returns-clause-until : goal.returns-clause-until
 returns-clause-until c = untils_are_of_years
+
+pub returns-clause-ical_repeats : goal.returns-clause-ical_repeats
+returns-clause-ical_repeats c = has_uncounted-cycles
