@@ -1,0 +1,9 @@
+use Rattle.rrule_text.proofs.ReadBack.{read_back}
+use Rattle.rrule_text.proofs.Writable.{writable}
+use Rattle.rrule_text.proofs.laws.text_laws.Goals as goal
+
+pub returns-clause-writable : goal.returns-clause-writable
+returns-clause-writable c = writable
+
+pub returns-clause-back : goal.returns-clause-back
+returns-clause-back c = read_back c.rule_laws.ensures.ical_values c.rule_laws.ensures.ical_interval c.rule_laws.ensures.until

@@ -1,0 +1,20 @@
+//! The texts of RFC 5545 rules.
+#![tactic(auto)]
+
+mod fault;
+mod items;
+mod laws;
+mod names;
+mod numbers;
+mod pieces;
+mod reading;
+mod until;
+mod writing;
+
+pub use fault::RruleFault;
+pub use laws::text_laws;
+pub use reading::read_rrule;
+pub use writing::write_rrule;
+
+#[cfg(test)]
+mod tests;
