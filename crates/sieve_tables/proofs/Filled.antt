@@ -15,12 +15,12 @@ use Rattle.sieve_core.specs.Bits.{has_bit, is_zero}
 use Rattle.rule_core.specs.Values.{is_given}
 use Rattle.sieve_tables.specs.Lowered.{has_place, place_of, IsEntry, IsTableOf}
 
-and_any : {X : Type 0} (b : Bool) (p : X → Bool) (xs : List X) → (b && list_any p xs) ≡ list_any (λ x. b && p x) xs
+pub and_any : {X : Type 0} (b : Bool) (p : X → Bool) (xs : List X) → (b && list_any p xs) ≡ list_any (λ x. b && p x) xs
 and_any true p xs = refl
 and_any false p [] = refl
 and_any false p (x ∷ xs) = and_any false p xs
 
-any_same_all : (P : ℤ → Type 0) (p q : ℤ → Bool) → ((x : ℤ) → P x → p x ≡ q x) → (xs : List ℤ) → All P xs → list_any p xs ≡ list_any q xs
+pub any_same_all : {X : Type 0} (P : X → Type 0) (p q : X → Bool) → ((x : X) → P x → p x ≡ q x) → (xs : List X) → All P xs → list_any p xs ≡ list_any q xs
 any_same_all P p q same [] each = refl
 any_same_all P p q same (x ∷ xs) each = rw (same x (All-head P x xs each), any_same_all P p q same xs (All-tail P x xs each)) refl
 

@@ -1,6 +1,7 @@
 pub mod Filled
 pub mod MaskLemmas
 pub mod Members
+pub mod NthTables
 pub mod SetBits
 pub mod TableLemmas
 pub mod WeekdayLemmas

@@ -1,5 +1,5 @@
 -- The tests of a rule's sieve are those of the rule.
-use Rattle.std.proofs.Common.{◌≡◌, ℕ, zero, suc, ℤ, pos, Bool, true, false, ◌&&◌, refl, sym, ◌∙◌, arith}
+use Rattle.std.proofs.Common.{◌≡◌, ℕ, zero, suc, ℤ, pos, Bool, true, false, ◌&&◌, refl, sym, ap, ◌∙◌, arith}
 use Rattle.moment_core.specs.Calendar.{divides, month_of, day_of_month, week_of, week_year_of, weeks_in_year}
 use Rattle.moment_core.specs.CalendarLaws.{WeekYearsHoldDays}
 use Rattle.moment_core.specs.TimeOfDay.{day_of, hour_of, minute_of, second_of}
@@ -16,8 +16,8 @@ use Rattle.rule_core.specs.declared.ical.IcalRule.{IcalRule}
 use Rattle.rule_core.specs.IcalMembers.{filled, has_uncounted, ical_unit, is_by, meets_set_pos, meets_by_date, meets_by_time, meets_by_day, meets_parts}
 use Rattle.sieve_core.specs.declared.tables.Sieve.{Sieve}
 use Rattle.sieve_core.specs.Days.{meets_days, meets_months, meets_month_days, meets_weeks, meets_year_days}
-use Rattle.sieve_core.specs.Members.{has, is_between, meets_interval, meets_masks, meets_rank, meets_rule, meets_tests}
-use Rattle.sieve_tables.specs.Lowered.{IsSieveOf}
+use Rattle.sieve_core.specs.Members.{meets_interval, meets_masks, meets_rank, meets_rule, meets_tests}
+use Rattle.sieve_tables.specs.Lowered.{IsSieveOf, has_until}
 use Rattle.sieve_tables.proofs.WeekdayLemmas.{by_day_same}
 use Rattle.sieve_tables.proofs.TableLemmas.{table_has, table_same, plain_part, either_listed}
 
@@ -31,29 +31,18 @@ pub rank_same : (unit : TimeUnit) (f g : ℤ → Bool) → ((t : ℤ) → f t �
 unfolding rank_in
 rank_same unit f g same dir t = count_same (seen (counts_with unit f t) dir t) (seen (counts_with unit g t) dir t) (λ n. rw (same _) refl) _
 
-and_false : (b : Bool) → (b && false) ≡ false
-and_false true = refl
-and_false false = refl
-
-and_true : (b : Bool) → (b && true) ≡ b
-and_true true = refl
-and_true false = refl
-
-all_same : (a a' b b' c c' d d' : Bool) → a ≡ a' → b ≡ b' → c ≡ c' → d ≡ d' → (a && b && c && d) ≡ (a' && b' && c' && d')
-all_same a a' b b' c c' d d' p q r s = cc
-
-and_group : (a b c d : Bool) → (a && (b && c && d)) ≡ (a && b && c && d)
-and_group true b c d = refl
-and_group false b c d = refl
-
-and_order : (a b c d e : Bool) → ((((a && e) && c) && b) && d) ≡ ((((a && b) && c) && d) && e)
+-- the same tests in another order
+and_order : (a b c d e : Bool) → ((a && (b && c && d)) && e) ≡ ((((a && c) && b) && d) && e)
 and_order false b c d e = refl
-and_order true false c d e = rw (and_false (e && c)) refl
-and_order true true false d e = rw (and_false e) refl
-and_order true true true true true = refl
-and_order true true true true false = refl
-and_order true true true false true = refl
-and_order true true true false false = refl
+and_order true true true d e = refl
+and_order true true false d e = refl
+and_order true false true d e = refl
+and_order true false false d e = refl
+
+regroup : (a a' b b' c c' d d' e : Bool) → a ≡ a' → b ≡ b' → c ≡ c' → d ≡ d' → ((a && (b && c && d)) && e) ≡ ((((a' && c') && b') && d') && e)
+regroup a a' b b' c c' d d' e p q r s =
+    let same : ((a && (b && c && d)) && e) ≡ ((a' && (b' && c' && d')) && e) = cc in
+    same ∙ and_order a' b' c' d' e
 
 module _ (holds : WeekYearsHoldDays) (r : IcalRule) (s : Sieve) (is : IsSieveOf r s) where
   days_same : (day : ℤ) → meets_days s.days day ≡ meets_by_date (filled r) day
@@ -61,13 +50,13 @@ module _ (holds : WeekYearsHoldDays) (r : IcalRule) (s : Sieve) (is : IsSieveOf 
   days_same day =
       let month = month_of-is day in
       let year = days_into_year-is day in
-      let week = holds r.week_start day is.weekday in
-      let months_at = is.months (month_of day) (omega (arith, month.0.0)) (omega (arith, month.0.1)) ∙ sym (plain_part (month_of day) (filled r).by_month) in
-      let weeks_at = table_same s.days.weeks 64 (weeks_in_year r.week_start (week_year_of r.week_start day)) (week_of r.week_start day) (filled r).by_week is.weeks week.3 in
-      let year_at = table_same s.days.year_days 384 (year_len_of day) (day_of_year day) (filled r).by_year_day is.year_days (omega arith, omega (arith, year.1)) in
-      let month_at = table_same _ 32 (month_len_of day) (day_of_month day) (filled r).by_month_day is.month_days month.1 in
-      let days_at = by_day_same s.days.week_days s.days.nth (filled r).by_day is.week_days s.days.nth_in_month day month.1 (omega arith, omega (arith, year.1)) in
-      rw (is.first, months_at, weeks_at, year_at, month_at, days_at, is.in_month) refl
+      let week = holds r.week_start day is.days.weekday in
+      let months_at = is.days.months (month_of day) (omega (arith, month.0.0)) (omega (arith, month.0.1)) ∙ sym (plain_part (month_of day) (filled r).by_month) in
+      let weeks_at = table_same s.days.weeks 64 (weeks_in_year r.week_start (week_year_of r.week_start day)) (week_of r.week_start day) (filled r).by_week is.days.weeks week.3 in
+      let year_at = table_same s.days.year_days 384 (year_len_of day) (day_of_year day) (filled r).by_year_day is.days.year_days (omega arith, omega (arith, year.1)) in
+      let month_at = table_same _ 32 (month_len_of day) (day_of_month day) (filled r).by_month_day is.days.month_days month.1 in
+      let days_at = by_day_same s.days.week_days s.days.nth (filled r).by_day is.days.week_days s.days.nth_in_month day month.1 (omega arith, omega (arith, year.1)) in
+      rw (is.days.first, months_at, weeks_at, year_at, month_at, days_at, is.days.in_month) refl
 
   time_same : (t : ℤ) → meets_masks s (hour_of t) (minute_of t) (second_of t) ≡ meets_by_time (filled r) t
   unfolding meets_masks meets_by_time
@@ -88,17 +77,13 @@ module _ (holds : WeekYearsHoldDays) (r : IcalRule) (s : Sieve) (is : IsSieveOf 
       let fore = rank_same s.unit (meets_tests s) (meets_parts r) tests_same Fore t in
       rw (is.rank.none, back, fore, is.unit, table_has s.rank.0 384 (rank_in (ical_unit r) (meets_parts r) Back t) (rank_in (ical_unit r) (meets_parts r) Fore t) r.by_set_pos is.rank, either_listed r.by_set_pos (pos (rank_in (ical_unit r) (meets_parts r) Back t)) (neg_ℤ (pos (rank_in (ical_unit r) (meets_parts r) Fore t)))) refl
 
-  between_same : (t : ℤ) → int_le t s.last.0 ≡ is_by r.until t → is_between s t ≡ (int_le r.start.moment.0 t && is_by r.until t)
-  unfolding is_between
-  between_same t last = rw (is.begins, last) refl
-
   interval_same : (t : ℤ) → meets_interval s t ≡ divides (unsigned_abs r.interval) (unit_of (ical_unit r) t -ℤ unit_of (ical_unit r) r.start.moment.0)
   unfolding meets_interval
   interval_same t = rw (is.interval, is.unit, is.phase) refl
 
-  pub members_same : (t : ℤ) → int_le t s.last.0 ≡ is_by r.until t → has s t ≡ has_uncounted r t
-  unfolding has meets_rule has_uncounted
-  members_same t last =
-      and_group (is_between s t) (meets_tests s t) (meets_interval s t) (meets_rank s t)
-      ∙ all_same _ _ _ _ _ _ _ _ (between_same t last) (tests_same t) (interval_same t) (set_pos_same t)
-      ∙ and_order (int_le r.start.moment.0 t) (divides (unsigned_abs r.interval) (unit_of (ical_unit r) t -ℤ unit_of (ical_unit r) r.start.moment.0)) (meets_parts r t) (meets_set_pos r t) (is_by r.until t)
+  pub members_same : (t : ℤ) → has_until s r.until t ≡ has_uncounted r t
+  unfolding has_until meets_rule has_uncounted
+  members_same t =
+      let first : int_le s.first.0 t ≡ int_le r.start.moment.0 t = ap (λ z. int_le z t) is.begins in
+      regroup (int_le s.first.0 t) (int_le r.start.moment.0 t) (meets_tests s t) (meets_parts r t) (meets_interval s t) _ (meets_rank s t) (meets_set_pos r t) (is_by r.until t)
+      first (tests_same t) (interval_same t) (set_pos_same t)

@@ -1,6 +1,7 @@
 -- What a table tests is what the list means.
 use Rattle.std.proofs.Common.{◌≡◌, ℕ, ◌+◌, ◌<◌, ℤ, pos, negsuc, ◌+ℤ◌, Bool, true, false, not, ◌||◌, List, [], ◌∷◌, refl, ap, arith}
-use Rattle.std.specs.Prelude.{neg_ℤ, int_lt}
+use Rattle.std.specs.Prelude.{neg_ℤ, int_lt, All}
+use Rattle.std.proofs.lemmas.List.Elements.{All-head, All-tail}
 use Rattle.std.specs.Int.{IsInRange}
 use Rattle.std.specs.List.{list_any}
 use Rattle.std.specs.Ordering.{int_eq}
@@ -10,6 +11,7 @@ use Rattle.rule_core.specs.IcalMembers.{meets_part}
 use Rattle.rule_core.specs.Values.{is_given, is_listed, meant}
 use Rattle.sieve_core.specs.Bits.{is_in_signed, meets_signed}
 use Rattle.sieve_tables.specs.Lowered.{IsTableOf, lists}
+use Rattle.sieve_tables.specs.Masks.{IsPlain}
 
 or_false : (b : Bool) → b ≡ (b || false)
 or_false true = refl
@@ -73,3 +75,14 @@ pub either_listed : (values : List ℤ) (a b : ℤ) → list_any (λ n. int_eq n
 either_listed [] a b = refl
 either_listed (x ∷ values) a b =
     rw (either_listed values a b) (or_swap (int_eq x a) (int_eq x b) (lists values a) (lists values b))
+
+-- of numbers that aren't below 0 each means itself
+plain_means : (len v : ℕ) (x : ℤ) → IsPlain len x → int_eq (meant len x) (pos v) ≡ int_eq x (pos v)
+plain_means len v (pos x) plain = rw (not_below x) refl
+plain_means len v (negsuc x) plain = absurd (omega (arith, ints, plain.0))
+
+pub plain_lists : (len v : ℕ) (values : List ℤ) → All (IsPlain len) values → is_listed values len v ≡ lists values (pos v)
+unfolding is_listed
+plain_lists len v [] each = refl
+plain_lists len v (x ∷ values) each =
+    rw (plain_means len v x (All-head (IsPlain len) x values each), plain_lists len v values (All-tail (IsPlain len) x values each)) refl

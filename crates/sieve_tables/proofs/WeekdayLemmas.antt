@@ -63,7 +63,7 @@ module _ (week_days : ℕ) (nth : List (List ℕ)) (items : List DayItem) (table
   by_day_same false day month year =
       rw table.none (or_assoc (not (is_given items)) _ _ ∙ ap (λ x. not (is_given items) || x) (items_same (weekday_of day) (year_len_of day) (day_of_year day) (omega (arith, floor_arith), omega (arith, floor_arith)) year))
 
-zero_words : (nth : List (List ℕ)) (k : ℕ) → list_all is_zero nth ≡ true → is_zero (slice_index_or nth k []) ≡ true
+pub zero_words : (nth : List (List ℕ)) (k : ℕ) → list_all is_zero nth ≡ true → is_zero (slice_index_or nth k []) ≡ true
 zero_words [] k each = refl
 zero_words (words ∷ nth) zero each = (and_parts (is_zero words) (list_all is_zero nth) each).0
 zero_words (words ∷ nth) (suc k) each = zero_words nth k (and_parts (is_zero words) (list_all is_zero nth) each).1

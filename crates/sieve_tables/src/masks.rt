@@ -2,7 +2,8 @@ ghost use Rattle.std.specs.Prelude.{◌≡◌, ◌<◌, ◌≤◌, ◌^◌, ◌=
 ghost use Rattle.std.specs.Ordering.{int_eq};
 ghost use Rattle.rule_core.specs.Values.{is_given, is_listed, meant};
 ghost use Rattle.sieve_core.specs.Bits.{has_bit};
-ghost use Rattle.sieve_tables.specs.Masks.{IsValue};
+ghost use Rattle.sieve_tables.specs.Lowered.{IsMaskOf, lists};
+ghost use Rattle.sieve_tables.specs.Masks.{IsPlain, IsValue};
 
 use sieve_core::sieve_laws;
 
@@ -20,8 +21,8 @@ fn bit_of(v: i64, len: u8) -> u8
     }
 }
 
-/// The mask of a list of values below `len`: `v` has bit `v`, and one below 0 has bit `len + v`. It is zero
-/// exactly where no value is listed.
+/// The mask of a list of values below `len`: `v` has bit `v`, and one below 0 has bit `len + v`. It
+/// is zero exactly where no value is listed.
 pub fn mask_of(values: &[i64], len: u8) -> u64
     requires len { len ≤ 63 }
     requires values { All (IsValue len) values.now }
@@ -37,7 +38,7 @@ pub fn mask_of(values: &[i64], len: u8) -> u64
 }
 
 // The mask with one more bit.
-fn with_bit(mask: u64, bit: u8, len: u8) -> u64
+pub(crate) fn with_bit(mask: u64, bit: u8, len: u8) -> u64
     requires len { len ≤ 63 }
     requires bit { bit < len }
     requires mask { mask < 2 ^ len }
@@ -58,4 +59,29 @@ pub fn full_mask(len: u8) -> u64
 {
     sieve_laws();
     (1 << len) - 1
+}
+
+/// The mask of a list of numbers below `len`, none of them below 0. It is zero exactly where no number is listed.
+pub fn plain_mask(values: &[i64], len: u8) -> u64
+    requires len { len ≤ 63 }
+    requires values { All (IsPlain len) values.now }
+    ensures bits { (k : ℕ) → k < 64 → has_bit (result ∷ []) k ≡ lists values.now (pos k) }
+    ensures below { result < 2 ^ len }
+    ensures none { (result == 0) ≡ not (is_given values.now) }
+{
+    mask_of(values, len)
+}
+
+/// The mask of a list of numbers below `len`, none of them below 0, and of all of these where no number is listed.
+pub fn listed_mask(values: &[i64], len: u8) -> u64
+    requires len { len ≤ 63 }
+    requires values { All (IsPlain len) values.now }
+    ensures mask { IsMaskOf result len values.now }
+    ensures below { result < 2 ^ len }
+{
+    if values.is_empty() {
+        full_mask(len)
+    } else {
+        plain_mask(values, len)
+    }
 }

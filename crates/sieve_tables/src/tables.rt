@@ -16,7 +16,7 @@ pub(crate) fn set_bit(words: &mut [u64], i: usize)
 }
 
 // Where a signed table has the value.
-fn place_of(half: usize, v: i64) -> usize
+pub(crate) fn place_of(half: usize, v: i64) -> usize
     requires small { half ≤ 384 }
     requires entry { IsEntry half v }
     ensures place { result ≡ place_of half v }
@@ -26,8 +26,8 @@ fn place_of(half: usize, v: i64) -> usize
     if v < 0 { half + size } else { size }
 }
 
-/// Fills an empty signed table with the values: `v` at bit `v`, and `-v` at bit `half + v`, where `half` is half the
-/// table's bits. No value is 0 or reaches `half`.
+/// Fills an empty signed table with the values: `v` at bit `v`, and `-v` at bit `half + v`, where
+/// `half` is half the table's bits. No value is 0 or reaches `half`.
 pub fn fill(words: &mut [u64], values: &[i64])
     requires small { length words.old ≤ 12 }
     requires entries { All (IsEntry (32 * length words.old)) values.now }

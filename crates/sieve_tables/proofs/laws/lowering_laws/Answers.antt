@@ -5,4 +5,4 @@ pub returns-clause-tests : goal.returns-clause-tests
 returns-clause-tests c = λ r s is t. tests_same c.calendar_laws.ensures.week_years_hold_days r s is t
 
 pub returns-clause-members : goal.returns-clause-members
-returns-clause-members c = λ r s is t last. members_same c.calendar_laws.ensures.week_years_hold_days r s is t last
+returns-clause-members c = λ r s is t. members_same c.calendar_laws.ensures.week_years_hold_days r s is t

@@ -1,0 +1,9 @@
+pub mod Checks
+pub mod Counting
+pub mod EndedFrames
+pub mod LastCounted
+pub mod Meanings
+pub mod OutcomeLemmas
+pub mod Repeating
+pub mod RuleLemmas
+pub mod SearchLemmas
