@@ -14,8 +14,9 @@ use Rattle.frame_core.specs.Laws.{ConstantSetsRepeat, JoinedPeriods, SetsRepeatA
 use Rattle.expr_tree.specs.Lists.{bottom, frame_from, has_listed, list_frame, top, meaning_of_list}
 use Rattle.expr_tree.specs.Members.{is_member}
 use Rattle.stored_pair.specs.Meanings.{Meaning}
-use Rattle.expr_tree.specs.Tree.{Listed, Field, Tree, Empty, Spanned, Ruled, Joined, Not}
+use Rattle.expr_tree.specs.Tree.{Listed, Field, Ical, Tree, Empty, Spanned, Ruled, Joined, Not}
 use Rattle.field_rules.specs.Laws.{CheckedRulesRepeat}
+use Rattle.ical_rules.specs.Laws.{CheckedIcalRulesRepeat}
 use Rattle.moment_core.specs.Sets.{moments_in}
 use Rattle.cert_audit.specs.Lawful.{AreLawful, IsLawful}
 use Rattle.cert_audit.specs.Laws.{WellFormedAreLawful}
@@ -115,13 +116,15 @@ list_period (stamp ∷ stamps) = one_second
 pub list_lawful : ConstantSetsRepeat → (stamps : List Stamp) → IsLawful (meaning_of_list stamps)
 list_lawful constant stamps = record { period = list_period stamps; repeats = list_repeats constant stamps }
 
--- so is a rule by fields, and what a well-formed tree means is made of such rules
-pub are_lawful : ConstantSetsRepeat → CheckedRulesRepeat → WellFormedAreLawful
-are_lawful constant fields entries Empty h = tt
-are_lawful constant fields entries (Spanned bounds low high) h = tt
-are_lawful constant fields entries (Ruled (Listed stamps)) h = list_lawful constant stamps
-are_lawful constant fields entries (Ruled (Field rule)) h =
+-- so is a rule by fields or of RFC 5545, and what a well-formed tree means is made of such rules
+pub are_lawful : ConstantSetsRepeat → CheckedRulesRepeat → CheckedIcalRulesRepeat → WellFormedAreLawful
+are_lawful constant fields icals entries Empty h = tt
+are_lawful constant fields icals entries (Spanned bounds low high) h = tt
+are_lawful constant fields icals entries (Ruled (Listed stamps)) h = list_lawful constant stamps
+are_lawful constant fields icals entries (Ruled (Field rule)) h =
     let repeats = fields rule h.0 in record { period = repeats.0; repeats = repeats.1 }
-are_lawful constant fields entries (Joined op a b) h =
-    (are_lawful constant fields entries a h.0, are_lawful constant fields entries b h.1)
-are_lawful constant fields entries (Not a) h = are_lawful constant fields entries a h
+are_lawful constant fields icals entries (Ruled (Ical rule)) h =
+    let repeats = icals rule h.0.checked h.2 in record { period = repeats.0; repeats = repeats.1 }
+are_lawful constant fields icals entries (Joined op a b) h =
+    (are_lawful constant fields icals entries a h.0, are_lawful constant fields icals entries b h.1)
+are_lawful constant fields icals entries (Not a) h = are_lawful constant fields icals entries a h

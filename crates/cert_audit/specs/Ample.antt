@@ -1,5 +1,6 @@
--- Which budgets are ample for searches of a tree, wherever in the calendar range they begin and end. A tree may look as far as
--- `REACH` from there, so the days that count are those of the working range.
+-- Which budgets are ample for searches of a tree, wherever in the calendar range they begin and
+-- end. A tree may look as far as `REACH` from there, so the days that count are those of the
+-- working range.
 use Rattle.std.specs.Prelude.{◌≡◌, ◌⊎◌, ℕ, ◌+◌, ◌*◌, ◌<◌, ◌≤◌, ℤ, pos, ◌+ℤ◌, ◌-ℤ◌, ◌*ℤ◌}
 use Rattle.moment_core.specs.Line.{IsWorkingMoment, position_of}
 use Rattle.moment_core.specs.declared.line.Dir.{Dir}
@@ -43,16 +44,20 @@ IsWorkingDay day = IsWorkingMoment (day *ℤ pos 86_400)
 
 -- no leaf of the tree has more candidates than that on any day of the working range
 abbrev pub IsMost : Tree Meaning → ℕ → Type 0
-IsMost tree m = (leaf : Tree Meaning) → IsLeafOf leaf tree → (day : ℤ) → IsWorkingDay day → candidates_on leaf day ≤ m
+IsMost tree m =
+    (leaf : Tree Meaning) → IsLeafOf leaf tree → (day : ℤ) → IsWorkingDay day
+    → candidates_on leaf day ≤ m
 
--- the days of the working range: 7,232,166 from -9900-01-01 to 9900-12-31, and 32,850 more at either end, which are `REACH` seconds
+-- the days of the working range: 7,232,166 from -9900-01-01 to 9900-12-31, and 32,850 more at
+-- either end, which are `REACH` seconds
 unfoldable pub days_of_working_range : ℕ
 days_of_working_range = 7_297_866
 
--- the budget is above what the leaves have together if each had m candidates, at least 1, on each day of the working range,
--- and none has more
+-- the budget is above what the leaves have together if each had m candidates, at least 1, on each
+-- day of the working range, and none has more
 abbrev pub IsAmple : Tree Meaning → ℕ → Type 0
-IsAmple tree budget = (m : ℕ) × (1 ≤ m) × IsMost tree m × (copies_of tree * m * days_of_working_range < budget)
+IsAmple tree budget =
+    (m : ℕ) × (1 ≤ m) × IsMost tree m × (copies_of tree * m * days_of_working_range < budget)
 
 -- what is counted from one position to another that lies past it
 abbrev pub counted_up_to : (ℤ → ℤ → ℕ) → Dir → ℤ → ℤ → ℕ

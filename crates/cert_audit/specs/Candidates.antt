@@ -36,7 +36,8 @@ is_candidate (Ruled rule) p = moments_in rule.candidate p
 is_candidate (Joined op a b) p = is_candidate a p || is_candidate b p
 is_candidate (Not a) p = is_candidate a p
 
--- the candidates from position a to position b: those of rules, bounds of spans, and the sum over two children
+-- the candidates from position a to position b: those of rules, bounds of spans, and the sum over
+-- two children
 abbrev pub candidates : Tree Meaning → ℤ → ℤ → ℕ
 candidates Empty a b = 0
 candidates (Spanned bounds low high) a b = count_between (bounds_at bounds) a b

@@ -10,7 +10,9 @@ use Rattle.expr_tree.specs.Tree.{Tree}
 use Rattle.cert_audit.specs.Candidates.{candidates}
 use Rattle.cert_audit.specs.TreeFrames.{frame_of_tree}
 
--- in a direction, from a place, for a budget: the search itself stops. No node of a tree stops a search yet.
+-- in a direction, from a place, for a budget: the search itself stops. No node of a tree stops a
+-- search yet.
 abbrev pub IsDue : Tree Meaning → Dir → ℤ → ℕ → Stop → Type 0
 IsDue tree dir p budget s =
-    (n : ℕ) × StopsAt (is_member tree) (candidates tree) (window_if_framed (frame_of_tree tree) dir p) dir p budget s n
+    (n : ℕ) × StopsAt (is_member tree) (candidates tree)
+    (window_if_framed (frame_of_tree tree) dir p) dir p budget s n

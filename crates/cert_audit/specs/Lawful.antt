@@ -27,8 +27,10 @@ HasPeriod-prop (Some frame) = hlevel props
 
 Repeats-prop : (set : ℤ → Bool) (frame : Frame) → IsProp (Repeats set frame)
 Repeats-prop set frame x y =
-    let up : IsProp ((p : ℤ) → frame.hi.0 ≤ℤ p → set (p +ℤ pos (2 * frame.period)) ≡ set p) = hlevel props in
-    let down : IsProp ((p : ℤ) → p ≤ℤ frame.lo.0 → set (p -ℤ pos (2 * frame.period)) ≡ set p) = hlevel props in
+    let up : IsProp ((p : ℤ) → frame.hi.0 ≤ℤ p → set (p +ℤ pos (2 * frame.period)) ≡ set p) =
+    hlevel props in
+    let down : IsProp ((p : ℤ) → p ≤ℤ frame.lo.0 → set (p -ℤ pos (2 * frame.period)) ≡ set p) =
+    hlevel props in
     λ i. record { upwards = up x.upwards y.upwards i; downwards = down x.downwards y.downwards i }
 
 RepeatsIfFramed-prop : (set : ℤ → Bool) (o : Option Frame) → IsProp (RepeatsIfFramed set o)

@@ -6,6 +6,7 @@ pub mod Laws
 pub mod Lowered
 pub mod Nodes
 pub mod Searches
+pub mod Settling
 pub mod Stamped
 pub mod TreeFrames
 pub mod Turns

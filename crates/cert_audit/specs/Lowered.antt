@@ -31,7 +31,8 @@ pub record CanBeReady (t : Tree Rule) : Type 0 where
 abbrev pub meant_of_ready : Ready → Tree Meaning
 meant_of_ready ready = meant_of_node ready.root
 
--- the positions of a tree made ready, the stops that are due in its searches, its frame and its windows
+-- the positions of a tree made ready, the stops that are due in its searches, its frame and its
+-- windows
 abbrev pub members_of : Ready → ℤ → Bool
 members_of ready = is_member (meant_of_ready ready)
 

@@ -22,10 +22,12 @@ abbrev pub unchanged : Option Window → Answer
 unchanged (Some window) = Never window
 unchanged None = Edge
 
--- one more for a turn that counts, where its candidate lies past the place, or where the search begins there
+-- one more for a turn that counts, where its candidate lies past the place, or where the search
+-- begins there
 abbrev pub passed_by : ℕ → Dir → ℤ → ℤ → Turn → ℕ
 passed_by passed dir p place turn =
-    if turn.counts && (int_eq place p || is_past dir (candidate_at dir turn.place.0) place) then passed + 1 else passed
+    if turn.counts && (int_eq place p || is_past dir (candidate_at dir turn.place.0) place)
+    then passed + 1 else passed
 
 -- the answer of a tree made ready at p in a direction, or a stop that is due for the budget
 abbrev pub AnswersAt : Ready → ℤ → Dir → ℕ → Answer → Type 0

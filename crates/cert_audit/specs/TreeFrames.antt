@@ -22,7 +22,8 @@ span_lo None None = top
 
 abbrev pub span_frame : Bound × Bound → Frame
 span_frame bounds =
-    frame_from (span_hi (first_from bounds.0) (last_to bounds.1)) (span_lo (first_from bounds.0) (last_to bounds.1))
+    frame_from (span_hi (first_from bounds.0) (last_to bounds.1))
+    (span_lo (first_from bounds.0) (last_to bounds.1))
 
 -- the joined frame, where both are there
 abbrev pub join_framed : Option Frame → Option Frame → Option Frame

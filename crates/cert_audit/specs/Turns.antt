@@ -38,19 +38,22 @@ pub record TurnsAfter (set : ℤ → Bool) (dir : Dir) (p end : ℤ) (turn : Tur
   pub within : IsUpTo dir end turn.place.0
   pub stays : (k : ℕ) → k ≤ n → seen set dir p k ≡ set p
 
--- the next place up to the end at which the set may change, or none where nothing changes up to there
+-- the next place up to the end at which the set may change, or none where nothing changes up to
+-- there
 abbrev pub IsTurn : (ℤ → Bool) → Dir → ℤ → ℤ → Option Turn → Type 0
 IsTurn set dir p end (Some turn) = (n : ℕ) × TurnsAfter set dir p end turn n
 IsTurn set dir p end None = (k : ℕ) → IsUpTo dir end (ahead dir p k) → seen set dir p k ≡ set p
 
 -- a candidate stands at the turn, where it counts as one
 abbrev pub StandsIfCounted : (ℤ → Bool) → Dir → Option Turn → Type 0
-StandsIfCounted candidate dir (Some turn) = turn.counts ≡ true → candidate (candidate_at dir turn.place.0) ≡ true
+StandsIfCounted candidate dir (Some turn) =
+    turn.counts ≡ true → candidate (candidate_at dir turn.place.0) ≡ true
 StandsIfCounted candidate dir None = Unit {0}
 
 -- a turn that counts, where it isn't past the end
 abbrev pub turn_up_to : Dir → Pos → Pos → Option Turn
-turn_up_to dir place end = if is_past dir place.0 end.0 then None else Some (record { place = place; counts = true })
+turn_up_to dir place end =
+    if is_past dir place.0 end.0 then None else Some (record { place = place; counts = true })
 
 -- the candidate of a step lies in the working range, and its turn
 abbrev pub IsWorkingStep : Step → Type 0

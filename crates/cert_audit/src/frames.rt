@@ -15,8 +15,8 @@ use frame_core::{Frame, join};
 use moment_core::{HIGH, LOW, Pos, REACH};
 use span_core::Span;
 
-/// From where on, and after how long, the positions of the tree repeat. None exactly where the least common
-/// period of two children is above `WIDTH`, or a child has no frame.
+/// From where on, and after how long, the positions of the tree repeat. None exactly where the
+/// least common period of two children is above `WIDTH`, or a child has no frame.
 pub fn frame_of(r: &Ready) -> Option<Frame>
     ensures value { result ≡ frame_of_ready r.now }
     ensures period { HasPeriod result }
@@ -37,6 +37,7 @@ pub(crate) fn node_frame(node: &Node) -> Option<Frame>
         Node::List(moments) => Some(moments.frame()),
         Node::Span(span, _, _) => Some(span_frame(span)),
         Node::Field(leaf) => leaf.frame(),
+        Node::Ical(leaf) => leaf.frame(),
         Node::Joined(_, a, b) => join_framed(node_frame(a), node_frame(b)),
         Node::Not(a) => node_frame(a),
     }

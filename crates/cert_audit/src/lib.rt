@@ -1,4 +1,5 @@
-//! Trees made ready for searches, and the plain search that asks every node anew at each step and keeps nothing.
+//! Trees made ready for searches, and the plain search that asks every node anew at each step and
+//! keeps nothing.
 #![tactic(auto)]
 
 mod ends;
@@ -14,6 +15,6 @@ mod tests;
 mod turns;
 
 pub use frames::frame_of;
-pub use laws::{ample_laws, candidate_laws, ready_laws, tree_frame_laws};
-pub use lowering::{PlanFault, Ready};
+pub use laws::{ample_laws, candidate_laws, ready_laws, settle_laws, tree_frame_laws};
+pub use lowering::{PlanFault, Ready, SETTLE_LIMIT};
 pub use search::sweep;

@@ -3,23 +3,48 @@ ghost use Rattle.moment_core.specs.Line.{IsCalendarPosition};
 ghost use Rattle.cert_audit.specs.Lawful.{AreLawful, AreLawful-prop};
 ghost use Rattle.cert_audit.specs.Nodes.{meant_of_node};
 ghost use Rattle.cert_audit.specs.TreeFrames.{frame_of_tree};
+ghost use Rattle.cert_audit.specs.declared.lowering.PlanFault.TheVariants.{Memory, Settle};
 
 use crate::frames::node_frame;
 use crate::nodes::Node;
 use expr_tree::Expr;
 use frame_core::Frame;
+use ical_rules::Unsettled;
 use moment_core::{Moment, Pos, Steps};
 use span_core::Test;
-use std::alloc::Global;
+use std::alloc::{AllocError, Global};
 use std::sync::ledger::Ledger;
 use stored_pair::Book;
+
+/// Within how many candidates the last member of a rule with a COUNT has to be found.
+pub const SETTLE_LIMIT: u64 = 20_000_000;
 
 /// Why a tree can't be made ready.
 #[derive(Clone, Copy, Debug, PartialEq, Eq)]
 pub enum PlanFault {
-    /// A rule with a count has no last member within so many candidates, the last of them at the moment.
+    /// A rule with a count has no last member within so many candidates, the last of them at the
+    /// moment.
     Settle { passed: u64, at: Moment },
     Memory,
+}
+
+impl From<AllocError> for PlanFault {
+    ghost from_gives = { λ _ e. e ≡ Memory };
+
+    fn from(_e: AllocError) -> PlanFault {
+        PlanFault::Memory
+    }
+}
+
+impl From<Unsettled> for PlanFault {
+    ghost from_gives = { λ u e. e ≡ Settle u.passed u.at };
+
+    fn from(u: Unsettled) -> PlanFault {
+        PlanFault::Settle {
+            passed: u.passed,
+            at: u.at,
+        }
+    }
 }
 
 /// A tree with its leaves made ready for searches, over the book whose entries it names.
@@ -37,21 +62,22 @@ impl<'b> Ready<'b> {
     ghost use Rattle.stored_pair.specs.Names.{entries_of};
     ghost use Rattle.cert_audit.specs.Lowered.{CanBeReady, members_of, meant_of_ready};
     ghost use Rattle.cert_audit.specs.Searches.{test_of};
+    ghost use Rattle.cert_audit.specs.Settling.{AreSettled, IsFaultOf};
 
-    /// Copies the tree and makes its leaves ready. `Settle` never comes, since no leaf counts its members yet.
+    /// Copies the tree and makes its leaves ready, with the last member of each rule that has a COUNT.
+    ///
+    /// `Settle` comes exactly where a rule has more than `SETTLE_LIMIT` candidates, its COUNT put aside, and fewer members
+    /// than its COUNT among the first so many of them. The first such rule of the tree decides, left before right.
     pub fn make(alloc: Global, e: &Expr, book: &'b Book) -> Result<Ready<'b>, PlanFault>
         requires { CanBeReady (tree_of e.now) }
         ensures meant { IfOk result
             (λ ready. meant_of_ready ready ≡ meant_of (entries_of book.now) (tree_of e.now)) }
-        ensures memory { IfErr result (λ fault. fault ≡ PlanFault.Memory) }
+        ensures settled { IfOk result (λ ready. AreSettled (tree_of e.now)) }
+        ensures fault { IfErr result (IsFaultOf (tree_of e.now)) }
     {
-        match Node::lower(alloc, e, book) {
-            Ok(root) => {
-                let frame = node_frame(&root);
-                Ok(Ready { root, frame, book })
-            }
-            Err(_) => Err(PlanFault::Memory),
-        }
+        let root = Node::lower(alloc, e, book)?;
+        let frame = node_frame(&root);
+        Ok(Ready { root, frame, book })
     }
 
     /// Whether the position is a member. `Budget` never comes, since no node looks back yet.

@@ -15,10 +15,11 @@ use moment_core::{Dir, HIGH, LOW, Pos, Steps, Window, floor};
 use span_core::{Answer, Stop};
 use std::sync::ledger::Ledger;
 
-/// Looks for the nearest position past `p`, in the direction, whose membership differs, asking every node anew at each step.
+/// Looks for the nearest position past `p`, in the direction, whose membership differs, asking
+/// every node anew at each step.
 ///
-/// `At`, `None` and `Edge` are the answer. `Budget` comes only where nothing differs from `p` up to the stop, which is not past
-/// the search's end, and at least `budget` candidates lie between.
+/// `At`, `None` and `Edge` are the answer. `Budget` comes only where nothing differs from `p` up to
+/// the stop, which is not past the search's end, and at least `budget` candidates lie between.
 pub fn sweep<L: Ledger>(r: &Ready, p: Pos, dir: Dir, budget: u64, steps: &mut Steps<L>) -> Answer
     requires range { IsCalendarPosition p.0 }
     requires budget { 1 ≤ budget }

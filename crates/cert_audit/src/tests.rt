@@ -16,6 +16,47 @@ use std::sync::ledger::{Blank, Ledger};
 use std::test::Fail;
 use stored_pair::Book;
 
+/// A leaf of a set: a list of two moments, or a span.
+#[derive(Clone, Copy, Debug)]
+enum Leaf {
+    List(Moment, Moment),
+    Span(Bound, Bound),
+}
+
+/// How two leaves are joined.
+#[derive(Clone, Copy, Debug)]
+enum Join {
+    Union,
+    Meet,
+    Minus,
+}
+
+/// A set of leaves, as a row gives it.
+#[derive(Clone, Copy, Debug)]
+enum Sketch {
+    Nothing,
+    One(Leaf),
+    Two(Leaf, Join, Leaf),
+    InverseOfOne(Leaf),
+    InverseOfTwo(Leaf, Join, Leaf),
+}
+
+fn is_moment(moment: Moment) -> bool
+    ensures { IsTrue result ↔ IsCalendarMoment moment.0 }
+{
+    LOW <= moment.0 && moment.0 <= HIGH
+}
+
+fn is_given(bound: Bound) -> bool
+    ensures { IsTrue result ↔ IsGiven bound }
+{
+    match bound {
+        Bound::Inf => true,
+        Bound::Closed(moment) | Bound::Open(moment) => is_moment(moment),
+        Bound::Edge => false,
+    }
+}
+
 /// A list of two moments.
 fn list(alloc: Global, a: Moment, b: Moment) -> Result<Expr, AllocError>
     requires a { IsCalendarMoment a.0 }
@@ -50,35 +91,59 @@ fn span(low: Bound, high: Bound) -> Result<Expr, Empty>
     Ok(Expr::Span(span, clock_of(low), clock_of(high)))
 }
 
-fn union(alloc: Global, a: Expr, b: Expr) -> Result<Expr, AllocError>
-    requires a { IsWellFormed (tree_of a) }
-    requires b { IsWellFormed (tree_of b) }
+fn leaf_of(rt: &impl Abort, alloc: Global, leaf: Leaf) -> Result<Expr, Fail>
     ensures { IfOk result (λ e. IsWellFormed (tree_of e)) }
 {
-    Ok(Expr::Union(Box::new(alloc, a)?, Box::new(alloc, b)?))
+    match leaf {
+        Leaf::List(a, b) => {
+            assert!(rt; is_moment(a) && is_moment(b));
+            Ok(list(alloc, a, b)?)
+        }
+        Leaf::Span(low, high) => {
+            assert!(rt; is_given(low) && is_given(high));
+            Ok(span(low, high)?)
+        }
+    }
 }
 
-fn meet(alloc: Global, a: Expr, b: Expr) -> Result<Expr, AllocError>
-    requires a { IsWellFormed (tree_of a) }
-    requires b { IsWellFormed (tree_of b) }
+fn joined(alloc: Global, first: Expr, join: Join, second: Expr) -> Result<Expr, AllocError>
+    requires first { IsWellFormed (tree_of first) }
+    requires second { IsWellFormed (tree_of second) }
     ensures { IfOk result (λ e. IsWellFormed (tree_of e)) }
 {
-    Ok(Expr::Meet(Box::new(alloc, a)?, Box::new(alloc, b)?))
+    let first = Box::new(alloc, first)?;
+    let second = Box::new(alloc, second)?;
+    Ok(match join {
+        Join::Union => Expr::Union(first, second),
+        Join::Meet => Expr::Meet(first, second),
+        Join::Minus => Expr::Minus(first, second),
+    })
 }
 
-fn minus(alloc: Global, a: Expr, b: Expr) -> Result<Expr, AllocError>
-    requires a { IsWellFormed (tree_of a) }
-    requires b { IsWellFormed (tree_of b) }
+fn two(rt: &impl Abort, alloc: Global, first: Leaf, join: Join, second: Leaf) -> Result<Expr, Fail>
     ensures { IfOk result (λ e. IsWellFormed (tree_of e)) }
 {
-    Ok(Expr::Minus(Box::new(alloc, a)?, Box::new(alloc, b)?))
+    let first = leaf_of(rt, alloc, first)?;
+    Ok(joined(alloc, first, join, leaf_of(rt, alloc, second)?)?)
 }
 
-fn inverse(alloc: Global, a: Expr) -> Result<Expr, AllocError>
+fn inverse(alloc: Global, a: Expr) -> Result<Expr, Fail>
     requires { IsWellFormed (tree_of a) }
     ensures { IfOk result (λ e. IsWellFormed (tree_of e)) }
 {
     Ok(Expr::Not(Box::new(alloc, a)?))
+}
+
+fn set_of(rt: &impl Abort, alloc: Global, sketch: Sketch) -> Result<Expr, Fail>
+    ensures { IfOk result (λ e. IsWellFormed (tree_of e)) }
+{
+    match sketch {
+        Sketch::Nothing => Ok(Expr::Empty),
+        Sketch::One(a) => leaf_of(rt, alloc, a),
+        Sketch::Two(a, join, b) => two(rt, alloc, a, join, b),
+        Sketch::InverseOfOne(a) => inverse(alloc, leaf_of(rt, alloc, a)?),
+        Sketch::InverseOfTwo(a, join, b) => inverse(alloc, two(rt, alloc, a, join, b)?),
+    }
 }
 
 fn make<'b>(
@@ -154,196 +219,261 @@ fn nearest_asked(rt: &impl Abort, r: &Ready, p: Pos, dir: Dir) -> Option<Pos>
     None
 }
 
-/// Searches from 32 positions on, both ways, find what asking each position finds.
-fn agrees(
-    rt: &impl Abort,
-    alloc: Global,
-    book: &Book,
-    set: Expr,
-    first: Pos,
-) -> Result<(), PlanFault>
-    requires set { IsWellFormed (tree_of set) }
-    requires first { IsCalendarPosition first.0 }
+/// A search from the position, that way, finds what asking each position finds.
+fn agrees(rt: &impl Abort, r: &Ready, p: Pos, dir: Dir)
+    requires { IsCalendarPosition p.0 }
 {
-    let ready = make(rt, alloc, &set, book)?;
+    let found = match answer(rt, r, p, dir, 1000) {
+        Answer::At(q) => Some(q),
+        _ => None,
+    };
+    assert_eq!(rt; found, nearest_asked(rt, r, p, dir), "{dir:?} from {p:?}");
+}
+
+/// Searches from 32 positions on, both ways, find what asking each position finds.
+fn agree(rt: &impl Abort, r: &Ready, first: Pos)
+    requires { IsCalendarPosition first.0 }
+{
     for steps in 0..32 {
         let p = ahead(first, Dir::Fore, steps);
         if is_in_range(p) {
-            for dir in [Dir::Fore, Dir::Back] {
-                let found = match answer(rt, &ready, p, dir, 1000) {
-                    Answer::At(q) => Some(q),
-                    _ => None,
-                };
-                assert_eq!(rt;
-                    found,
-                    nearest_asked(rt, &ready, p, dir),
-                    "{dir:?} from {p:?}"
-                );
-            }
+            agrees(rt, r, p, Dir::Fore);
+            agrees(rt, r, p, Dir::Back);
         }
+    }
+}
+
+/// What a row says of a set.
+#[derive(Clone, Copy, Debug)]
+enum Want {
+    /// A search from the position, that way and with the budget, has the answer.
+    Answer(Pos, Dir, u64, Answer),
+    /// Searches from the position on find what asking each position finds.
+    Agreement(Pos),
+    /// The set doesn't change from `hi` upwards and from `lo` downwards.
+    StaysPast { hi: i64, lo: i64 },
+}
+
+fn meets(rt: &impl Abort, r: &Ready, want: Want) {
+    match want {
+        Want::Answer(from, dir, budget, want) => {
+            assert_eq!(rt;
+                answer(rt, r, from, dir, budget),
+                want,
+                "{dir:?} from {from:?}"
+            );
+        }
+        Want::Agreement(first) => {
+            assert!(rt; is_in_range(first));
+            agree(rt, r, first);
+        }
+        Want::StaysPast { hi, lo } => {
+            let frame = Frame {
+                lo: Pos(lo),
+                hi: Pos(hi),
+                period: 1,
+            };
+            assert_eq!(rt; frame_of(r), Some(frame));
+        }
+    }
+}
+
+fn is_met(
+    rt: &impl Abort,
+    alloc: Global,
+    set: &Expr,
+    book: &Book,
+    want: Want,
+) -> Result<(), PlanFault>
+    requires { IsWellFormed (tree_of set.now) }
+{
+    let ready = make(rt, alloc, set, book)?;
+    meets(rt, &ready, want);
+    Ok(())
+}
+
+fn holds(rt: &impl Abort, alloc: Global, sketch: Sketch, want: Want) -> Result<(), Fail> {
+    let set = set_of(rt, alloc, sketch)?;
+    is_met(rt, alloc, &set, &Book::empty(alloc), want)?;
+    Ok(())
+}
+
+/// 2003-01-01T00:00:00.
+const T: Moment = Moment(1_041_379_200);
+
+const ALL_BUT_T: Sketch = Sketch::InverseOfOne(Leaf::List(T, T));
+
+#[test]
+fn all_but_one_moment(rt: HostRuntime) -> Result<(), Fail> {
+    const WANTED: &[Want] = &[
+        Want::Answer(
+            Pos(2_082_758_395),
+            Dir::Fore,
+            100,
+            Answer::At(Pos(2_082_758_400)),
+        ),
+        Want::Answer(
+            Pos(2_082_758_400),
+            Dir::Fore,
+            100,
+            Answer::At(Pos(2_082_758_401)),
+        ),
+        Want::Answer(
+            Pos(2_082_758_401),
+            Dir::Fore,
+            100,
+            Answer::None(Window {
+                lo: Pos(2_082_758_401),
+                hi: Pos(2_082_758_403),
+            }),
+        ),
+        Want::StaysPast {
+            hi: 2_082_758_401,
+            lo: 2_082_758_399,
+        },
+    ];
+    for want in WANTED {
+        holds(&rt, rt.alloc(), ALL_BUT_T, *want)?;
     }
     Ok(())
 }
 
 #[test]
-fn all_but_one_moment(rt: HostRuntime) -> Result<(), Fail> {
-    let alloc = rt.alloc();
-    let book = Book::empty(alloc);
-    let t = Moment(1_041_379_200);
-    let p = 2_082_758_400;
-    let set = inverse(alloc, list(alloc, t, t)?)?;
-    let ready = make(&rt, alloc, &set, &book)?;
-    let rows = [
-        (p - 5, Answer::At(Pos(p))),
-        (p, Answer::At(Pos(p + 1))),
-        (
-            p + 1,
-            Answer::None(Window {
-                lo: Pos(p + 1),
-                hi: Pos(p + 3),
-            }),
-        ),
-    ];
-    for (from, want) in rows {
-        assert_eq!(rt;
-            answer(&rt, &ready, Pos(from), Dir::Fore, 100),
-            want,
-            "from {from}"
-        );
-    }
-    let frame = Frame {
-        lo: Pos(p - 1),
-        hi: Pos(p + 1),
-        period: 1,
-    };
-    assert_eq!(rt; frame_of(&ready), Some(frame));
-    let none = make(&rt, alloc, &Expr::Empty, &book)?;
-    assert_eq!(rt;
-        answer(&rt, &none, Pos(2 * HIGH), Dir::Fore, 100),
-        Answer::Edge
-    );
-    Ok(())
+fn no_position_is_found_at_the_end_of_the_range(rt: HostRuntime) -> Result<(), Fail> {
+    let edge = Want::Answer(Pos(2 * HIGH), Dir::Fore, 100, Answer::Edge);
+    holds(&rt, rt.alloc(), Sketch::Nothing, edge)
 }
 
 #[test]
 fn a_search_stops_once_the_candidates_are_as_many_as_the_budget(
     rt: HostRuntime,
 ) -> Result<(), Fail> {
-    let alloc = rt.alloc();
-    let book = Book::empty(alloc);
-    let moments = list(alloc, Moment(0), Moment(10))?;
-    let same = list(alloc, Moment(0), Moment(10))?;
-    let set = minus(alloc, moments, same)?;
-    let ready = make(&rt, alloc, &set, &book)?;
-    let stop = Stop {
-        at: Pos(0),
-        node: 0,
-    };
-    assert_eq!(rt;
-        answer(&rt, &ready, Pos(-5), Dir::Fore, 1),
-        Answer::Budget(stop)
-    );
-    let never = Answer::None(Window {
-        lo: Pos(21),
-        hi: Pos(23),
-    });
-    assert_eq!(rt; answer(&rt, &ready, Pos(-5), Dir::Fore, 100), never);
+    const MOMENTS: Leaf = Leaf::List(Moment(0), Moment(10));
+    const WANTED: &[Want] = &[
+        Want::Answer(
+            Pos(-5),
+            Dir::Fore,
+            1,
+            Answer::Budget(Stop {
+                at: Pos(0),
+                node: 0,
+            }),
+        ),
+        Want::Answer(
+            Pos(-5),
+            Dir::Fore,
+            100,
+            Answer::None(Window {
+                lo: Pos(21),
+                hi: Pos(23),
+            }),
+        ),
+    ];
+    let set = Sketch::Two(MOMENTS, Join::Minus, MOMENTS);
+    for want in WANTED {
+        holds(&rt, rt.alloc(), set, *want)?;
+    }
     Ok(())
 }
 
 #[test]
 fn a_search_finds_what_asking_each_position_finds(rt: HostRuntime) -> Result<(), Fail> {
-    let alloc = rt.alloc();
-    let book = Book::empty(alloc);
-    let near = Pos(-5);
-    agrees(&rt, alloc, &book, list(alloc, Moment(0), Moment(3))?, near)?;
-    let low = span(Bound::Closed(Moment(0)), Bound::Open(Moment(5)))?;
-    let high = span(Bound::Open(Moment(5)), Bound::Closed(Moment(9)))?;
-    agrees(&rt, alloc, &book, union(alloc, low, high)?, near)?;
-    let low = span(Bound::Closed(Moment(0)), Bound::Open(Moment(5)))?;
-    let high = span(Bound::Closed(Moment(5)), Bound::Closed(Moment(9)))?;
-    agrees(&rt, alloc, &book, union(alloc, low, high)?, near)?;
-    let low = span(Bound::Closed(Moment(0)), Bound::Closed(Moment(5)))?;
-    let high = span(Bound::Closed(Moment(5)), Bound::Inf)?;
-    agrees(&rt, alloc, &book, meet(alloc, low, high)?, near)?;
-    let below = span(Bound::Inf, Bound::Closed(Moment(9)))?;
-    let set = minus(alloc, below, list(alloc, Moment(2), Moment(2))?)?;
-    agrees(&rt, alloc, &book, inverse(alloc, set)?, near)?;
+    const SETS: &[Sketch] = &[
+        Sketch::One(Leaf::List(Moment(0), Moment(3))),
+        Sketch::Two(
+            Leaf::Span(Bound::Closed(Moment(0)), Bound::Open(Moment(5))),
+            Join::Union,
+            Leaf::Span(Bound::Open(Moment(5)), Bound::Closed(Moment(9))),
+        ),
+        Sketch::Two(
+            Leaf::Span(Bound::Closed(Moment(0)), Bound::Open(Moment(5))),
+            Join::Union,
+            Leaf::Span(Bound::Closed(Moment(5)), Bound::Closed(Moment(9))),
+        ),
+        Sketch::Two(
+            Leaf::Span(Bound::Closed(Moment(0)), Bound::Closed(Moment(5))),
+            Join::Meet,
+            Leaf::Span(Bound::Closed(Moment(5)), Bound::Inf),
+        ),
+        Sketch::InverseOfTwo(
+            Leaf::Span(Bound::Inf, Bound::Closed(Moment(9))),
+            Join::Minus,
+            Leaf::List(Moment(2), Moment(2)),
+        ),
+    ];
+    for set in SETS {
+        holds(&rt, rt.alloc(), *set, Want::Agreement(Pos(-5)))?;
+    }
     Ok(())
 }
 
 #[test]
 fn so_it_does_at_both_ends_of_the_range(rt: HostRuntime) -> Result<(), Fail> {
-    let alloc = rt.alloc();
-    let book = Book::empty(alloc);
-    let above = span(Bound::Closed(Moment(HIGH - 3)), Bound::Inf)?;
-    let last = list(alloc, Moment(HIGH - 1), Moment(HIGH))?;
-    agrees(
-        &rt,
-        alloc,
-        &book,
-        minus(alloc, above, last)?,
-        Pos(2 * HIGH - 12),
-    )?;
-    let below = span(Bound::Inf, Bound::Open(Moment(LOW + 1)))?;
-    let first = list(alloc, Moment(LOW), Moment(LOW + 2))?;
-    agrees(&rt, alloc, &book, union(alloc, below, first)?, Pos(2 * LOW))?;
-    Ok(())
-}
-
-/// The set doesn't change from `hi` upwards and from `lo` downwards.
-fn stays_past(
-    rt: &impl Abort,
-    alloc: Global,
-    book: &Book,
-    set: Expr,
-    hi: i64,
-    lo: i64,
-) -> Result<(), PlanFault>
-    requires { IsWellFormed (tree_of set) }
-{
-    let ready = make(rt, alloc, &set, book)?;
-    let frame = Frame {
-        lo: Pos(lo),
-        hi: Pos(hi),
-        period: 1,
-    };
-    assert_eq!(rt; frame_of(&ready), Some(frame), "at {set:?}");
+    const ROWS: &[(Sketch, Pos)] = &[
+        (
+            Sketch::Two(
+                Leaf::Span(Bound::Closed(Moment(HIGH - 3)), Bound::Inf),
+                Join::Minus,
+                Leaf::List(Moment(HIGH - 1), Moment(HIGH)),
+            ),
+            Pos(2 * HIGH - 12),
+        ),
+        (
+            Sketch::Two(
+                Leaf::Span(Bound::Inf, Bound::Open(Moment(LOW + 1))),
+                Join::Union,
+                Leaf::List(Moment(LOW), Moment(LOW + 2)),
+            ),
+            Pos(2 * LOW),
+        ),
+    ];
+    for (set, first) in ROWS {
+        holds(&rt, rt.alloc(), *set, Want::Agreement(*first))?;
+    }
     Ok(())
 }
 
 #[test]
 fn each_kind_of_span_has_its_frame(rt: HostRuntime) -> Result<(), Fail> {
-    let alloc = rt.alloc();
-    let book = Book::empty(alloc);
-    let both = span(Bound::Closed(Moment(0)), Bound::Open(Moment(5)))?;
-    stays_past(&rt, alloc, &book, both, 10, -1)?;
-    let open = span(Bound::Open(Moment(5)), Bound::Closed(Moment(9)))?;
-    stays_past(&rt, alloc, &book, open, 19, 10)?;
-    let low = span(Bound::Closed(Moment(0)), Bound::Inf)?;
-    stays_past(&rt, alloc, &book, low, 0, -1)?;
-    let high = span(Bound::Inf, Bound::Open(Moment(9)))?;
-    stays_past(&rt, alloc, &book, high, 18, 17)?;
-    let whole = span(Bound::Inf, Bound::Inf)?;
-    stays_past(&rt, alloc, &book, whole, -754_838_438_400, 506_232_806_398)?;
+    const ROWS: &[(Bound, Bound, i64, i64)] = &[
+        (Bound::Closed(Moment(0)), Bound::Open(Moment(5)), 10, -1),
+        (Bound::Open(Moment(5)), Bound::Closed(Moment(9)), 19, 10),
+        (Bound::Closed(Moment(0)), Bound::Inf, 0, -1),
+        (Bound::Inf, Bound::Open(Moment(9)), 18, 17),
+        (Bound::Inf, Bound::Inf, -754_838_438_400, 506_232_806_398),
+    ];
+    for (low, high, hi, lo) in ROWS {
+        let set = Sketch::One(Leaf::Span(*low, *high));
+        holds(&rt, rt.alloc(), set, Want::StaysPast { hi: *hi, lo: *lo })?;
+    }
     Ok(())
 }
 
 #[test]
 fn nothing_changes_past_a_span_either_way(rt: HostRuntime) -> Result<(), Fail> {
-    let alloc = rt.alloc();
-    let book = Book::empty(alloc);
-    let set = span(Bound::Closed(Moment(0)), Bound::Open(Moment(5)))?;
-    let ready = make(&rt, alloc, &set, &book)?;
-    let above = Answer::None(Window {
-        lo: Pos(12),
-        hi: Pos(14),
-    });
-    let below = Answer::None(Window {
-        lo: Pos(-5),
-        hi: Pos(-3),
-    });
-    assert_eq!(rt; answer(&rt, &ready, Pos(12), Dir::Fore, 1), above);
-    assert_eq!(rt; answer(&rt, &ready, Pos(-3), Dir::Back, 1), below);
+    const WANTED: &[Want] = &[
+        Want::Answer(
+            Pos(12),
+            Dir::Fore,
+            1,
+            Answer::None(Window {
+                lo: Pos(12),
+                hi: Pos(14),
+            }),
+        ),
+        Want::Answer(
+            Pos(-3),
+            Dir::Back,
+            1,
+            Answer::None(Window {
+                lo: Pos(-5),
+                hi: Pos(-3),
+            }),
+        ),
+    ];
+    let set = Sketch::One(Leaf::Span(Bound::Closed(Moment(0)), Bound::Open(Moment(5))));
+    for want in WANTED {
+        holds(&rt, rt.alloc(), set, *want)?;
+    }
     Ok(())
 }

@@ -21,11 +21,13 @@ use std::sync::ledger::Ledger;
 #[derive(Clone, Copy, Debug, PartialEq, Eq)]
 pub(crate) struct Turn {
     pub(crate) place: Pos,
-    /// Whether it counts as a candidate: one stands at the place, or at the moment right before it in the direction.
+    /// Whether it counts as a candidate: one stands at the place, or at the moment right before it
+    /// in the direction.
     pub(crate) counts: bool,
 }
 
-/// The nearest place past `p`, up to the end, at which a leaf of the tree may change; None where nothing changes up to there.
+/// The nearest place past `p`, up to the end, at which a leaf of the tree may change; None where
+/// nothing changes up to there.
 pub(crate) fn next_turn<L: Ledger>(
     node: &Node,
     p: Pos,
@@ -44,6 +46,7 @@ pub(crate) fn next_turn<L: Ledger>(
         Node::List(moments) => leaf_turn(moments, p, dir, end, steps),
         Node::Span(span, _, _) => span_turn(span, p, dir, end),
         Node::Field(leaf) => leaf_turn(leaf, p, dir, end, steps),
+        Node::Ical(leaf) => leaf_turn(leaf, p, dir, end, steps),
         Node::Joined(_, a, b) => {
             let near = next_turn(a, p, dir, end, steps);
             let other = next_turn(b, p, dir, end, steps);
@@ -53,8 +56,8 @@ pub(crate) fn next_turn<L: Ledger>(
     }
 }
 
-/// The nearest turn of a leaf of moments: where a member lies at the place or right before it in the direction, at the side of it that
-/// lies past the place, and else at the nearest candidate.
+/// The nearest turn of a leaf of moments: where a member lies at the place or right before it in
+/// the direction, at the side of it that lies past the place, and else at the nearest candidate.
 fn leaf_turn<F: Leaf, L: Ledger>(
     leaf: &F,
     p: Pos,
@@ -177,8 +180,8 @@ fn high_turn(high: Bound, p: Pos, dir: Dir, end: Pos) -> Option<Turn>
     }
 }
 
-/// The nearest place past `p`, up to the end, at which the positions from `first` on begin or end, with the moment of `first`
-/// as its candidate.
+/// The nearest place past `p`, up to the end, at which the positions from `first` on begin or end,
+/// with the moment of `first` as its candidate.
 fn crossing(first: Pos, p: Pos, dir: Dir, end: Pos) -> Option<Turn>
     requires low { position_of LOW ≤ℤ first.0 }
     ensures turn { IsTurn (λ q. int_le first.0 q) dir p.0 end.0 result }

@@ -17,10 +17,11 @@ use Rattle.moment_core.specs.Joining.{joined}
 use Rattle.moment_core.specs.declared.joining.Op.{Op}
 use Rattle.moment_core.specs.declared.joining.Op.TheVariants.{Union, Meet, Minus}
 use Rattle.expr_tree.specs.Lists.{has_listed}
+use Rattle.ical_rules.specs.Rules.{meaning_of_ical}
 use Rattle.stored_pair.specs.Meanings.{Entries}
 use Rattle.expr_tree.specs.Members.{is_member}
 use Rattle.expr_tree.specs.Sorts.{clock_of_stamps, clock_with, invert_judged, join_judged, joined_kind, judge, reach_of, sort_of_tree, sort_with, with_clock}
-use Rattle.expr_tree.specs.Tree.{Rule, Listed, Field, Tree, Empty, Spanned, Ruled, Joined, Not, meant_of}
+use Rattle.expr_tree.specs.Tree.{Rule, Listed, Field, Ical, Tree, Empty, Spanned, Ruled, Joined, Not, meant_of}
 use Rattle.expr_tree.specs.declared.sorting.Judged.{Judged}
 use Rattle.expr_tree.specs.declared.sorting.Sort.{Sort}
 use Rattle.expr_tree.specs.declared.sorting.SortFault.{SortFault}
@@ -93,6 +94,7 @@ judged_none_open entries (Spanned bounds low high) =
 judged_none_open entries (Ruled (Listed stamps)) =
     NoneOpen-clock (moments_in (has_listed stamps)) Moments (clock_of_stamps stamps) (λ e. none_between (has_listed stamps))
 judged_none_open entries (Ruled (Field rule)) = λ e. none_between (has_field rule)
+judged_none_open entries (Ruled (Ical rule)) = λ e. none_between (meaning_of_ical rule).member
 judged_none_open entries (Joined op a b) =
     NoneOpen-join op (is_member (meant_of entries a)) (is_member (meant_of entries b)) (judge a) (judge b) (judged_none_open entries a) (judged_none_open entries b)
 judged_none_open entries (Not a) = NoneOpen-inverse (λ p. not (is_member (meant_of entries a) p)) (judge a)

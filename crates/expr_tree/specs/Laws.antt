@@ -12,7 +12,8 @@ use Rattle.expr_tree.specs.declared.tree.Kind.TheVariants.{Moments}
 -- a set whose kind is moments has no open second
 abbrev pub MomentsAreAlone : Type 0
 MomentsAreAlone =
-    (entries : Entries) (t : Tree Rule) (sort : Sort) → sort_of_tree t ≡ Ok sort → sort.kind ≡ Moments
+    (entries : Entries) (t : Tree Rule) (sort : Sort) → sort_of_tree t ≡ Ok sort
+    → sort.kind ≡ Moments
     → (moment : ℤ) → is_member (meant_of entries t) (position_of moment +ℤ pos 1) ≡ false
 
 -- no set with a sort looks farther than `REACH`

@@ -7,7 +7,7 @@ use Rattle.moment_core.specs.declared.line.Stamp.{Stamp}
 use Rattle.moment_core.specs.declared.line.TheConstants.{REACH}
 use Rattle.moment_core.specs.declared.joining.Op.{Op}
 use Rattle.moment_core.specs.declared.joining.Op.TheVariants.{Union, Meet, Minus}
-use Rattle.expr_tree.specs.Tree.{Rule, Listed, Field, Tree, Empty, Spanned, Ruled, Joined, Not}
+use Rattle.expr_tree.specs.Tree.{Rule, Listed, Field, Ical, Tree, Empty, Spanned, Ruled, Joined, Not}
 use Rattle.expr_tree.specs.declared.tree.Kind.{Kind}
 use Rattle.expr_tree.specs.declared.tree.Kind.TheVariants.{Moments, Spans}
 use Rattle.expr_tree.specs.declared.sorting.Judged.{Judged}
@@ -78,7 +78,8 @@ joined_kind Meet a b = both_kind a b
 joined_kind Minus a b = a
 
 -- the kind and the clock of what joins two sets, of which the first one's fault comes first
-abbrev pub join_judged : Op → Result Judged SortFault → Result Judged SortFault → Result Judged SortFault
+abbrev pub join_judged : Op → Result Judged SortFault → Result Judged SortFault
+    → Result Judged SortFault
 join_judged op (Err fault) b = Err fault
 join_judged op (Ok a) (Err fault) = Err fault
 join_judged op (Ok a) (Ok b) = with_clock (joined_kind op a.kind b.kind) (one_clock a.clock b.clock)
@@ -87,16 +88,18 @@ abbrev pub invert_judged : Result Judged SortFault → Result Judged SortFault
 invert_judged (Err fault) = Err fault
 invert_judged (Ok a) = Ok (record { kind = Spans; clock = a.clock })
 
--- the kind and the clock of a tree, or the fault of the first node that has one: children first, left before right
+-- the kind and the clock of a tree, or the fault of the first node that has one: children first,
+-- left before right
 abbrev pub judge : Tree Rule → Result Judged SortFault
 judge Empty = Ok (record { kind = Moments; clock = Any })
 judge (Ruled (Listed stamps)) = with_clock Moments (clock_of_stamps stamps)
 judge (Spanned bounds low high) = with_clock Spans (one_clock low high)
 judge (Ruled (Field rule)) = Ok (record { kind = Moments; clock = clock_of_start rule.start })
+judge (Ruled (Ical rule)) = Ok (record { kind = Moments; clock = clock_of_stamp rule.start })
 judge (Joined op a b) = join_judged op (judge a) (judge b)
 judge (Not a) = invert_judged (judge a)
 
--- the most nodes that a tree may have, and the most that a path from its root may have
+-- the most nodes that a tree with a sort has, and the most that a path from its root has
 abbrev pub node_limit : ℕ
 node_limit = 1024
 
@@ -107,7 +110,14 @@ abbrev pub sort_with : Tree Rule → Result Judged SortFault → Result Sort Sor
 sort_with t (Err fault) = Err fault
 sort_with t (Ok judged) =
     if int_lt REACH (pos (reach_of t)) then Err faults.Reach
-    else Ok (record { kind = judged.kind; clock = judged.clock; reach = pos (reach_of t); depth = depth_of t; nodes = nodes_of t })
+    else Ok (record {
+      kind = judged.kind;
+      clock = judged.clock;
+      reach = pos (reach_of t);
+      depth =
+          depth_of t;
+      nodes = nodes_of t;
+    })
 
 -- the sort, or the first fault: too many nodes, too deep, a node's own, too far
 abbrev pub sort_of_tree : Tree Rule → Result Sort SortFault

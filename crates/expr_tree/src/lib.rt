@@ -10,5 +10,5 @@ mod tree;
 
 pub use laws::tree_laws;
 pub use lists::{Name, Stamps};
-pub use sorting::{Sort, SortFault, sort_of};
+pub use sorting::{NODE_LIMIT, PATH_LIMIT, Sort, SortFault, sort_of};
 pub use tree::{Expr, Kind, Program, Shown};

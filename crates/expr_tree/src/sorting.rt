@@ -38,11 +38,11 @@ pub enum SortFault {
     Reach,
 }
 
-/// The most nodes that a tree may have.
-const MAX_NODES: u32 = 1024;
+/// The most nodes that a tree with a sort has.
+pub const NODE_LIMIT: u32 = 1024;
 
-/// The most nodes that a path from the root may have.
-const MAX_DEPTH: u32 = 128;
+/// The most nodes that a path from the root of a tree with a sort has.
+pub const PATH_LIMIT: u32 = 128;
 
 /// The kind and the clock of a set.
 #[derive(Clone, Copy, Debug)]
@@ -51,13 +51,14 @@ struct Judged {
     clock: Clock,
 }
 
-/// The sort of a set, or the first fault of this order: too many nodes; a path of too many; then the fault of the first node
-/// that has one, children first, left before right; then shifts and durations that reach too far.
+/// The sort of a set, or the first fault of this order: too many nodes; a path of too many; then
+/// the fault of the first node that has one, children first, left before right; then shifts and
+/// durations that reach too far.
 pub fn sort_of(e: &Expr, _book: &Book) -> Result<Sort, SortFault>
     ensures { result ≡ sort_of_tree (tree_of e.now) }
 {
-    let nodes = nodes_within(e, MAX_NODES).ok_or(SortFault::Nodes)?;
-    let depth = depth_within(e, MAX_DEPTH).ok_or(SortFault::Depth)?;
+    let nodes = nodes_within(e, NODE_LIMIT).ok_or(SortFault::Nodes)?;
+    let depth = depth_within(e, PATH_LIMIT).ok_or(SortFault::Depth)?;
     let judged = judge_tree(e)?;
     let reach = reach(e);
     if reach > REACH {
@@ -82,7 +83,9 @@ fn nodes_within(e: &Expr, limit: u32) -> Option<u32>
     }
     let below = limit - 1;
     match e {
-        Expr::Empty | Expr::List(_) | Expr::Span(_, _, _) | Expr::Field(_) => Some(1),
+        Expr::Empty | Expr::List(_) | Expr::Span(_, _, _) | Expr::Field(_) | Expr::Rrule(_) => Some(
+            1,
+        ),
         Expr::Union(a, b) | Expr::Meet(a, b) | Expr::Minus(a, b) => {
             let left = nodes_within(a, below)?;
             let right = nodes_within(b, below - left)?;
@@ -102,7 +105,9 @@ fn depth_within(e: &Expr, limit: u32) -> Option<u32>
     }
     let below = limit - 1;
     match e {
-        Expr::Empty | Expr::List(_) | Expr::Span(_, _, _) | Expr::Field(_) => Some(1),
+        Expr::Empty | Expr::List(_) | Expr::Span(_, _, _) | Expr::Field(_) | Expr::Rrule(_) => Some(
+            1,
+        ),
         Expr::Union(a, b) | Expr::Meet(a, b) | Expr::Minus(a, b) => {
             let left = depth_within(a, below)?;
             let right = depth_within(b, below)?;
@@ -117,7 +122,7 @@ fn reach(e: &Expr) -> i64
     ensures { result ≡ pos (reach_of (tree_of e.now)) }
 {
     match e {
-        Expr::Empty | Expr::List(_) | Expr::Span(_, _, _) | Expr::Field(_) => 0,
+        Expr::Empty | Expr::List(_) | Expr::Span(_, _, _) | Expr::Field(_) | Expr::Rrule(_) => 0,
         Expr::Union(a, b) | Expr::Meet(a, b) | Expr::Minus(a, b) => max(reach(a), reach(b)),
         Expr::Not(a) => reach(a),
     }
@@ -137,6 +142,10 @@ fn judge_tree(e: &Expr) -> Result<Judged, SortFault>
         Expr::Field(rule) => Ok(Judged {
             kind: Kind::Moments,
             clock: clock_of_start(rule.start),
+        }),
+        Expr::Rrule(rule) => Ok(Judged {
+            kind: Kind::Moments,
+            clock: rule.start.clock(),
         }),
         Expr::Union(a, b) => join_judged(Op::Union, judge_tree(a)?, judge_tree(b)?),
         Expr::Meet(a, b) => join_judged(Op::Meet, judge_tree(a)?, judge_tree(b)?),

@@ -1,6 +1,6 @@
 use crate::lists::Stamps;
 use moment_core::Clock;
-use rule_core::FieldRule;
+use rule_core::{FieldRule, IcalRule};
 use span_core::Span;
 
 /// Whether a set is made of moments alone.
@@ -18,16 +18,19 @@ pub enum Shown {
 }
 
 /// A set of positions.
-#[derive(Debug, Drop)]
+#[derive(Debug)]
 pub enum Expr {
     /// No position.
     Empty,
     /// The listed moments.
     List(Stamps),
-    /// The positions of the span, with the clocks of its low and its high bound; a bound that isn't given has any clock.
+    /// The positions of the span, with the clocks of its low and its high bound; a bound that isn't
+    /// given has any clock.
     Span(Span, Clock, Clock),
     /// The moments of a field rule.
     Field(FieldRule),
+    /// The moments of a rule of RFC 5545 (3.3.10).
+    Rrule(IcalRule),
     /// The positions of either set.
     Union(Box<Expr>, Box<Expr>),
     /// The positions of both sets.
@@ -36,6 +39,25 @@ pub enum Expr {
     Minus(Box<Expr>, Box<Expr>),
     /// The positions that the set doesn't have.
     Not(Box<Expr>),
+}
+
+// A loop, so that a long chain of operators doesn't run out of stack.
+impl Drop for Expr {
+    fn drop(mut self) {
+        loop {
+            match self {
+                Expr::Empty => return,
+                Expr::List(_) => return,
+                Expr::Span(_, _, _) => return,
+                Expr::Field(_) => return,
+                Expr::Rrule(_) => return,
+                Expr::Union(left, _) => self = Box::into_inner(left),
+                Expr::Meet(left, _) => self = Box::into_inner(left),
+                Expr::Minus(left, _) => self = Box::into_inner(left),
+                Expr::Not(inner) => self = Box::into_inner(inner),
+            }
+        }
+    }
 }
 
 /// One set, or two for a command that compares them.

@@ -10,4 +10,4 @@ returns-clause-repeats c =
     c.bound_laws.ensures.low c.bound_laws.ensures.high
 
 pub returns-clause-lawful : goal.returns-clause-lawful
-returns-clause-lawful c = are_lawful c.frame_laws.ensures.constant c.field_laws.ensures
+returns-clause-lawful c = are_lawful c.frame_laws.ensures.constant c.field_laws.ensures c.ical_laws.ensures
