@@ -1,0 +1,5 @@
+pub mod Answered
+pub mod Endless
+pub mod Nearing
+pub mod Places
+pub mod Unique

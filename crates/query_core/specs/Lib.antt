@@ -1,0 +1,4 @@
+pub mod Laws
+pub mod Neighbours
+pub mod Answering
+pub mod Endless
