@@ -8,7 +8,7 @@ use Rattle.expr_tokens.specs.Plain as tokens
 use Rattle.moment_core.specs.declared.line.Stamp.{Stamp}
 use Rattle.expr_grammar.specs.declared.syntax.SpanBound.{SpanBound}
 use Rattle.expr_grammar.specs.Form.{Form, Span, Joined, Forms}
-use Rattle.expr_grammar.specs.Grammar.{Goes, ends, goes, Chain, MoreMoments, closed, more, IsLow, from_start, from_after, IsHigh, to_end, to_before, Bounds, no_bound, low_bound, high_bound, both_bounds, Leaf, empty, listed, span, rule, Nested, leaf, brackets, inverse, IsExpr, IsAtom, Spells, one, two}
+use Rattle.expr_grammar.specs.Grammar.{Goes, ends, goes, Chain, MoreMoments, closed, more, IsLow, from_start, from_after, IsHigh, to_end, to_before, Bounds, no_bound, low_bound, high_bound, both_bounds, Leaf, empty, listed, span, rule, Nested, leaf, brackets, inverse, IsExpr, IsAtom, Spells, one, two, nesting_limit}
 use Rattle.expr_grammar.specs.Laws.{SpellOne}
 use Rattle.rule_core.specs.declared.part.Freq.{Freq}
 use Rattle.rule_core.specs.declared.part.Freq.TheVariants as freqs
@@ -144,16 +144,16 @@ atom_complete zero = leaf_complete
 atom_complete (suc depth) =
     nested_complete (IsExpr (IsAtom depth)) (IsAtom depth) (expr_at (atom_at depth)) (atom_at depth) (expr_complete (IsAtom depth) (atom_at depth) (atom_complete depth)) (atom_complete depth)
 
-pub whole_expr_complete : IsComplete (IsExpr (IsAtom 128)) (expr_at (atom_at 128)) StopsAll
-whole_expr_complete = expr_complete (IsAtom 128) (atom_at 128) (atom_complete 128)
+pub whole_expr_complete : IsComplete (IsExpr (IsAtom nesting_limit)) (expr_at (atom_at nesting_limit)) StopsAll
+whole_expr_complete = expr_complete (IsAtom nesting_limit) (atom_at nesting_limit) (atom_complete nesting_limit)
 
 pub program_complete : (p : Forms) (ts : List Token) → Spells p ts → program_at ts ≡ Some p
 unfolding program_at program_end_at second_at
 program_complete p ts (one t _ spelled) =
-    let read : expr_at (atom_at 128) ts ≡ Some (t, []) = ap (expr_at (atom_at 128)) (sym (append-nil ts)) ∙ whole_expr_complete t ts [] spelled (record { union = refl; minus = refl; meet = refl }) in
+    let read : expr_at (atom_at nesting_limit) ts ≡ Some (t, []) = ap (expr_at (atom_at nesting_limit)) (sym (append-nil ts)) ∙ whole_expr_complete t ts [] spelled (record { union = refl; minus = refl; meet = refl }) in
     rw read refl
 program_complete p ts (two t u xs ys first second) =
-    let one_more : expr_at (atom_at 128) ys ≡ Some (u, []) = ap (expr_at (atom_at 128)) (sym (append-nil ys)) ∙ whole_expr_complete u ys [] second (record { union = refl; minus = refl; meet = refl }) in
+    let one_more : expr_at (atom_at nesting_limit) ys ≡ Some (u, []) = ap (expr_at (atom_at nesting_limit)) (sym (append-nil ys)) ∙ whole_expr_complete u ys [] second (record { union = refl; minus = refl; meet = refl }) in
     rw (whole_expr_complete t xs (tokens.Semicolon ∷ ys) first (record { union = refl; minus = refl; meet = refl }), one_more) refl
 
 pub Spells-unique : SpellOne

@@ -9,7 +9,7 @@ use Rattle.expr_tokens.specs.Plain as tokens
 use Rattle.expr_grammar.specs.declared.syntax.SpanBound.{SpanBound}
 use Rattle.expr_grammar.specs.Fields.{fields_tokens, field_tokens}
 use Rattle.expr_grammar.specs.Form.{FieldForm, Values, Start, Form, Joined, Forms}
-use Rattle.expr_grammar.specs.Grammar.{Goes, ends, goes, Chain, MoreMoments, closed, more, IsLow, from_start, from_after, IsHigh, to_end, to_before, Bounds, no_bound, low_bound, high_bound, both_bounds, Leaf, empty, listed, span, rule, Nested, leaf, brackets, inverse, IsExpr, IsAtom, Spells, one, two}
+use Rattle.expr_grammar.specs.Grammar.{Goes, ends, goes, Chain, MoreMoments, closed, more, IsLow, from_start, from_after, IsHigh, to_end, to_before, Bounds, no_bound, low_bound, high_bound, both_bounds, Leaf, empty, listed, span, rule, Nested, leaf, brackets, inverse, IsExpr, IsAtom, Spells, one, two, nesting_limit}
 use Rattle.expr_grammar.specs.Made.{HasMoment, BoundHas, FieldHas, IsMade, AreMade}
 use Rattle.moment_core.proofs.Lists.{all_front, all_behind}
 
@@ -79,8 +79,8 @@ module _ (P : Option Stamp → Type 0) where
   atom_made zero = leaf_made
   atom_made (suc depth) = nested_made (IsExpr (IsAtom depth)) (IsAtom depth) (expr_made (IsAtom depth) (atom_made depth)) (atom_made depth)
 
-  whole_made : Keeps (IsExpr (IsAtom 128))
-  whole_made = expr_made (IsAtom 128) (atom_made 128)
+  whole_made : Keeps (IsExpr (IsAtom nesting_limit))
+  whole_made = expr_made (IsAtom nesting_limit) (atom_made nesting_limit)
 
   pub program_made : (p : Forms) (ts : List Token) → Spells p ts → Dates ts → AreMade P p
   program_made p ts (one t _ spelled) h = (whole_made t ts spelled h, tt)

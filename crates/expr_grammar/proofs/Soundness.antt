@@ -10,7 +10,7 @@ use Rattle.expr_tokens.specs.Plain as tokens
 use Rattle.moment_core.specs.declared.line.Stamp.{Stamp}
 use Rattle.expr_grammar.specs.declared.syntax.SpanBound.{SpanBound}
 use Rattle.expr_grammar.specs.Form.{Form, Empty, Listed, Span, Joined, Inverse, Forms}
-use Rattle.expr_grammar.specs.Grammar.{Goes, ends, goes, Chain, MoreMoments, closed, more, IsLow, from_start, from_after, IsHigh, to_end, to_before, Bounds, no_bound, low_bound, high_bound, both_bounds, Leaf, empty, listed, span, rule, Nested, leaf, brackets, inverse, IsExpr, IsAtom, Spells, one, two}
+use Rattle.expr_grammar.specs.Grammar.{Goes, ends, goes, Chain, MoreMoments, closed, more, IsLow, from_start, from_after, IsHigh, to_end, to_before, Bounds, no_bound, low_bound, high_bound, both_bounds, Leaf, empty, listed, span, rule, Nested, leaf, brackets, inverse, IsExpr, IsAtom, Spells, one, two, nesting_limit}
 use Rattle.expr_grammar.specs.Parsing.{◌>>=◌, Read, same, stands, chain_from, chain_at, expr_at, moments_at, list_at, close_at, high_at, high_end_at, low_end_at, span_at, rule_at, leaf_at, nested_at, atom_at, second_at, program_end_at, program_at}
 use Rattle.expr_grammar.specs.Fields.{rule_tokens}
 use Rattle.expr_grammar.proofs.Rules.{TakesRule, rule_sound}
@@ -254,13 +254,13 @@ guard_is : {A : Type 0} (b : Bool) (x y : A) → cond b (Some x) None ≡ Some y
 guard_is true x y e = (refl, cc)
 guard_is false x y e = absurd cc
 
-pub whole_expr_sound : IsSound (IsExpr (IsAtom 128)) (expr_at (atom_at 128))
-whole_expr_sound = expr_sound (IsAtom 128) (atom_at 128) (atom_sound 128)
+pub whole_expr_sound : IsSound (IsExpr (IsAtom nesting_limit)) (expr_at (atom_at nesting_limit))
+whole_expr_sound = expr_sound (IsAtom nesting_limit) (atom_at nesting_limit) (atom_sound nesting_limit)
 
-second_sound : (t : Form) (front ts : List Token) (p : Forms) → IsExpr (IsAtom 128) t front → second_at t ts ≡ Some p → Spells p (front ++ tokens.Semicolon ∷ ts)
+second_sound : (t : Form) (front ts : List Token) (p : Forms) → IsExpr (IsAtom nesting_limit) t front → second_at t ts ≡ Some p → Spells p (front ++ tokens.Semicolon ∷ ts)
 unfolding second_at
 second_sound t front ts p spelled e =
-    let x = bind_some (expr_at (atom_at 128) ts) (λ u. cond (eqb (length u.1) 0) (Some (record { first = t; second = Some u.0 })) None) p e in
+    let x = bind_some (expr_at (atom_at nesting_limit) ts) (λ u. cond (eqb (length u.1) 0) (Some (record { first = t; second = Some u.0 })) None) p e in
     let made : Forms = record { first = t; second = Some x.0.0 } in
     let g = guard_is (eqb (length x.0.1) 0) made p x.2 in
     let other = whole_expr_sound ts x.0.0 x.0.1 x.1 in
@@ -268,7 +268,7 @@ second_sound t front ts p spelled e =
     let whole : ts ≡ other.front = other.whole ∙ ap (λ (r : List Token). other.front ++ r) nothing ∙ append-nil other.front in
     subst (λ (q : Forms). Spells q (front ++ tokens.Semicolon ∷ ts)) g.1 (subst (λ (w : List Token). Spells made (front ++ tokens.Semicolon ∷ w)) (sym whole) (two t x.0.0 front other.front spelled other.spelled))
 
-end_sound : (t : Form) (front ts : List Token) (p : Forms) → IsExpr (IsAtom 128) t front → program_end_at t ts ≡ Some p → Spells p (front ++ ts)
+end_sound : (t : Form) (front ts : List Token) (p : Forms) → IsExpr (IsAtom nesting_limit) t front → program_end_at t ts ≡ Some p → Spells p (front ++ ts)
 unfolding program_end_at
 end_sound t front [] p spelled e =
     let made : Forms = record { first = t; second = None } in
@@ -279,6 +279,6 @@ end_sound t front ts p spelled e = absurd cc
 pub program_sound : (ts : List Token) (p : Forms) → program_at ts ≡ Some p → Spells p ts
 unfolding program_at
 program_sound ts p e =
-    let x = bind_some (expr_at (atom_at 128) ts) (λ t. program_end_at t.0 t.1) p e in
+    let x = bind_some (expr_at (atom_at nesting_limit) ts) (λ t. program_end_at t.0 t.1) p e in
     let first = whole_expr_sound ts x.0.0 x.0.1 x.1 in
     subst (λ (w : List Token). Spells p w) (sym first.whole) (end_sound x.0.0 first.front x.0.1 p first.spelled x.2)

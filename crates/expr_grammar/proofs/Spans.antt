@@ -15,7 +15,7 @@ use Rattle.expr_grammar.specs.Fields.{field_tokens, fields_tokens, freq_word, ke
 use Rattle.expr_grammar.specs.Form.{FieldForm, Values, Start, Form, Empty, Listed, Span, Joined, Inverse, Forms}
 use Rattle.expr_grammar.specs.Laws.{SpansAreNamed}
 use Rattle.expr_grammar.specs.Spans.{all_names, names, spans_in}
-use Rattle.expr_grammar.specs.Grammar.{Goes, ends, goes, Chain, MoreMoments, closed, more, IsLow, from_start, from_after, IsHigh, to_end, to_before, Bounds, no_bound, low_bound, high_bound, both_bounds, Leaf, empty, listed, span, rule, Nested, leaf, brackets, inverse, IsExpr, IsAtom, Spells, one, two}
+use Rattle.expr_grammar.specs.Grammar.{Goes, ends, goes, Chain, MoreMoments, closed, more, IsLow, from_start, from_after, IsHigh, to_end, to_before, Bounds, no_bound, low_bound, high_bound, both_bounds, Leaf, empty, listed, span, rule, Nested, leaf, brackets, inverse, IsExpr, IsAtom, Spells, one, two, nesting_limit}
 
 names_append : (xs ys : List Token) → all_names (xs ++ ys) ≡ all_names xs + all_names ys
 names_append [] ys = omega arith
@@ -105,8 +105,8 @@ unfolding IsAtom
 atom_names zero = leaf_names
 atom_names (suc depth) = nested_names (IsExpr (IsAtom depth)) (IsAtom depth) (expr_names (IsAtom depth) (atom_names depth)) (atom_names depth)
 
-whole_names : Counts (IsExpr (IsAtom 128))
-whole_names = expr_names (IsAtom 128) (atom_names 128)
+whole_names : Counts (IsExpr (IsAtom nesting_limit))
+whole_names = expr_names (IsAtom nesting_limit) (atom_names nesting_limit)
 
 pub program_names : SpansAreNamed
 program_names p ts (one t _ spelled) = omega (arith, whole_names t ts spelled)

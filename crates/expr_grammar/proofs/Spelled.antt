@@ -10,7 +10,7 @@ use Rattle.expr_tokens.specs.Plain as tokens
 use Rattle.expr_grammar.specs.declared.syntax.SpanBound.{SpanBound}
 use Rattle.expr_grammar.specs.Form.{Form, Empty, Listed, Span, Rule, Joined, Inverse, Forms}
 use Rattle.expr_grammar.specs.Fields.{rule_tokens}
-use Rattle.expr_grammar.specs.Grammar.{ends, goes, Chain, MoreMoments, closed, more, IsLow, from_start, from_after, IsHigh, to_end, to_before, Bounds, no_bound, low_bound, high_bound, both_bounds, Leaf, empty, listed, span, rule, leaf, brackets, inverse, IsExpr, IsAtom, Spells, one, two}
+use Rattle.expr_grammar.specs.Grammar.{ends, goes, Chain, MoreMoments, closed, more, IsLow, from_start, from_after, IsHigh, to_end, to_before, Bounds, no_bound, low_bound, high_bound, both_bounds, Leaf, empty, listed, span, rule, leaf, brackets, inverse, IsExpr, IsAtom, Spells, one, two, nesting_limit}
 use Rattle.expr_grammar.specs.Laws.{PrintedIsSpelled}
 use Rattle.expr_grammar.specs.Nesting.{is_joined, AsOperand, NestsWithin, height, HasTokens, in_brackets, more_tokens, low_word, high_word, bounds_tokens, spelled, spelled_second, spelled_program, IsPrintableForm, IsPrintableSecond, IsPrintable}
 
@@ -148,8 +148,8 @@ is_shallow (Inverse t) (suc depth) le =
     let h : NestsWithin (Inverse t) (suc depth) = (depth, refl, (is_shallow t depth inner).operand) in
     record { alone = h; operand = h }
 
-whole_spelled : (t : Form) → IsPrintableForm t → IsExpr (IsAtom 128) t (spelled t)
-whole_spelled t h = (is_spelled t 128 h.0 (is_shallow t 128 (omega (arith, h.1))).alone).expr
+whole_spelled : (t : Form) → IsPrintableForm t → IsExpr (IsAtom nesting_limit) t (spelled t)
+whole_spelled t h = (is_spelled t nesting_limit h.0 (is_shallow t nesting_limit (omega (arith, h.1))).alone).expr
 
 both_spelled : (t : Form) (u : Option Form) → IsPrintableForm t → IsPrintableSecond u → Spells (record { first = t; second = u }) (spelled t ++ spelled_second u)
 both_spelled t None h other = rw (append-nil (spelled t)) (one t (spelled t) (whole_spelled t h))

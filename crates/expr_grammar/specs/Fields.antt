@@ -76,7 +76,8 @@ fields_tokens (f ∷ fields) = field_tokens f ++ fields_tokens fields
 
 -- freq "(" { field } ")"
 abbrev pub rule_tokens : Freq → List FieldForm → List Token
-rule_tokens freq fields = tokens.Word (freq_word freq) ∷ tokens.Open ∷ fields_tokens fields ++ tokens.Close ∷ []
+rule_tokens freq fields =
+    tokens.Word (freq_word freq) ∷ tokens.Open ∷ fields_tokens fields ++ tokens.Close ∷ []
 
 -- there is a number, and more than one only where the key may have them
 abbrev pub HasNumbers : FieldForm → Type 0

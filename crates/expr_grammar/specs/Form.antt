@@ -11,7 +11,8 @@ pub data FieldForm : Type 0 where
   Values : (key : Key) (values : List ℤ) → FieldForm
   Start : (stamp : Option Stamp) → FieldForm
 
--- A moment is the stamp of its literal, or None where the literal names no moment of the calendar range.
+-- A moment is the stamp of its literal, or None where the literal names no moment of the calendar
+-- range.
 pub data Form : Type 0 where
   Empty : Form
   Listed : (moments : List (Option Stamp)) → Form

@@ -12,13 +12,16 @@ use Rattle.expr_grammar.specs.Form.{FieldForm, Form, Empty, Listed, Span, Rule, 
 use Rattle.expr_grammar.specs.Fields.{AreFields, rule_tokens}
 
 -- { op operand }, each joined to what stands to its left
-pub data Goes (Operand : Form → List Token → Type 0) (op : Op) : Form → Form → List Token → Type 0 where
+pub data Goes (Operand : Form → List Token → Type 0) (op : Op) : Form → Form → List Token
+    → Type 0 where
   ends : (t : Form) → Goes Operand op t t []
-  goes : (left b t : Form) (xs ys : List Token) → Operand b xs → Goes Operand op (Joined op left b) t ys
+  goes : (left b t : Form) (xs ys : List Token) → Operand b xs
+      → Goes Operand op (Joined op left b) t ys
       → Goes Operand op left t (tokens.Operator op ∷ xs ++ ys)
 
 -- operand { op operand }
-pub record Chain (Operand : Form → List Token → Type 0) (op : Op) (t : Form) (ts : List Token) : Type 0 where
+pub record Chain (Operand : Form → List Token → Type 0) (op : Op) (t : Form)
+    (ts : List Token) : Type 0 where
   pub first : Form
   pub front : List Token
   pub others : List Token
@@ -38,20 +41,27 @@ pub data MoreMoments : List (Option Stamp) → List Token → Type 0 where
 
 -- ( "start" | "after" ) moment
 pub data IsLow : SpanBound → List Token → Type 0 where
-  from_start : (m : Option Stamp) → IsLow (record { closed = true; stamp = m }) (tokens.Word words.Start ∷ tokens.Moment m ∷ [])
-  from_after : (m : Option Stamp) → IsLow (record { closed = false; stamp = m }) (tokens.Word words.After ∷ tokens.Moment m ∷ [])
+  from_start : (m : Option Stamp)
+      → IsLow (record { closed = true; stamp = m }) (tokens.Word words.Start ∷ tokens.Moment m ∷ [])
+  from_after : (m : Option Stamp)
+      → IsLow (record { closed = false; stamp = m })
+      (tokens.Word words.After ∷ tokens.Moment m ∷ [])
 
 -- ( "end" | "before" ) moment
 pub data IsHigh : SpanBound → List Token → Type 0 where
-  to_end : (m : Option Stamp) → IsHigh (record { closed = true; stamp = m }) (tokens.Word words.End ∷ tokens.Moment m ∷ [])
-  to_before : (m : Option Stamp) → IsHigh (record { closed = false; stamp = m }) (tokens.Word words.Before ∷ tokens.Moment m ∷ [])
+  to_end : (m : Option Stamp)
+      → IsHigh (record { closed = true; stamp = m }) (tokens.Word words.End ∷ tokens.Moment m ∷ [])
+  to_before : (m : Option Stamp)
+      → IsHigh (record { closed = false; stamp = m })
+      (tokens.Word words.Before ∷ tokens.Moment m ∷ [])
 
 -- [ low [ "," high ] | high ]
 pub data Bounds : Option SpanBound → Option SpanBound → List Token → Type 0 where
   no_bound : Bounds None None []
   low_bound : (a : SpanBound) (xs : List Token) → IsLow a xs → Bounds (Some a) None xs
   high_bound : (b : SpanBound) (ys : List Token) → IsHigh b ys → Bounds None (Some b) ys
-  both_bounds : (a b : SpanBound) (xs ys : List Token) → IsLow a xs → IsHigh b ys → Bounds (Some a) (Some b) (xs ++ tokens.Comma ∷ ys)
+  both_bounds : (a b : SpanBound) (xs ys : List Token) → IsLow a xs → IsHigh b ys
+      → Bounds (Some a) (Some b) (xs ++ tokens.Comma ∷ ys)
 
 -- an atom without an expression in it
 pub data Leaf : Form → List Token → Type 0 where
@@ -60,23 +70,33 @@ pub data Leaf : Form → List Token → Type 0 where
       → Leaf (Listed (m ∷ ms)) (tokens.LeftBrace ∷ tokens.Moment m ∷ ts)
   span : (a b : Option SpanBound) (ts : List Token) → Bounds a b ts
       → Leaf (Span a b) (tokens.Word words.Span ∷ tokens.Open ∷ ts ++ tokens.Close ∷ [])
-  rule : (freq : Freq) (fields : List FieldForm) → AreFields fields → Leaf (Rule freq fields) (rule_tokens freq fields)
+  rule : (freq : Freq) (fields : List FieldForm) → AreFields fields
+      → Leaf (Rule freq fields) (rule_tokens freq fields)
 
--- An atom. Whole says what stands within one more pair of brackets, and Atom what stands behind one more sign.
+-- An atom. Whole says what stands within one more pair of brackets, and Atom what stands behind one
+-- more sign.
 pub data Nested (Whole Atom : Form → List Token → Type 0) : Form → List Token → Type 0 where
   leaf : (t : Form) (ts : List Token) → Leaf t ts → Nested Whole Atom t ts
-  brackets : (t : Form) (ts : List Token) → Whole t ts → Nested Whole Atom t (tokens.Open ∷ ts ++ tokens.Close ∷ [])
-  inverse : (t : Form) (ts : List Token) → Atom t ts → Nested Whole Atom (Inverse t) (tokens.Exclamation ∷ ts)
+  brackets : (t : Form) (ts : List Token) → Whole t ts
+      → Nested Whole Atom t (tokens.Open ∷ ts ++ tokens.Close ∷ [])
+  inverse : (t : Form) (ts : List Token) → Atom t ts
+      → Nested Whole Atom (Inverse t) (tokens.Exclamation ∷ ts)
 
 -- an atom whose round brackets and signs nest at most so deep
 unfoldable pub IsAtom : ℕ → Form → List Token → Type 0
 IsAtom zero = Leaf
 IsAtom (suc depth) = Nested (IsExpr (IsAtom depth)) (IsAtom depth)
 
--- expr [ ";" expr ], with round brackets and signs at most 128 deep
+-- how deep round brackets and signs may nest
+abbrev pub nesting_limit : ℕ
+nesting_limit = 128
+
+-- expr [ ";" expr ], with round brackets and signs at most so deep
 pub data Spells : Forms → List Token → Type 0 where
-  one : (t : Form) (ts : List Token) → IsExpr (IsAtom 128) t ts → Spells (record { first = t; second = None }) ts
-  two : (t u : Form) (ts us : List Token) → IsExpr (IsAtom 128) t ts → IsExpr (IsAtom 128) u us
+  one : (t : Form) (ts : List Token) → IsExpr (IsAtom nesting_limit) t ts
+      → Spells (record { first = t; second = None }) ts
+  two : (t u : Form) (ts us : List Token) → IsExpr (IsAtom nesting_limit) t ts
+      → IsExpr (IsAtom nesting_limit) u us
       → Spells (record { first = t; second = Some u }) (ts ++ tokens.Semicolon ∷ us)
 
 abbrev pub SpellNothing : List Token → Type 0

@@ -27,7 +27,8 @@ abbrev pub FieldHas : (Option Stamp → Type 0) → FieldForm → Type 0
 FieldHas P (Values key values) = Unit {0}
 FieldHas P (Start stamp) = P stamp
 
--- the property holds of each literal, no list is empty, and rules have each key once and its numbers
+-- the property holds of each literal, no list is empty, and rules have each key once and its
+-- numbers
 abbrev pub IsMade : (Option Stamp → Type 0) → Form → Type 0
 IsMade P Empty = Unit {0}
 IsMade P (Listed []) = ⊥

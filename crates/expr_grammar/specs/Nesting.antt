@@ -1,4 +1,5 @@
--- Printed expressions: which operands stand in brackets, how deep the brackets and signs nest, and the tokens.
+-- Printed expressions: which operands stand in brackets, how deep the brackets and signs nest, and
+-- the tokens.
 use Rattle.std.specs.Prelude.{◌≡◌, ◌≤◌, ℕ, suc, max, Bool, true, false, List, [], ◌∷◌, ◌++◌, Option, Some, None}
 use Rattle.moment_core.specs.declared.line.Stamp.{Stamp}
 use Rattle.expr_tokens.specs.declared.token.Word.{Word}
@@ -8,6 +9,7 @@ use Rattle.expr_tokens.specs.Plain as tokens
 use Rattle.expr_grammar.specs.declared.syntax.SpanBound.{SpanBound}
 use Rattle.expr_grammar.specs.Fields.{AreFields, rule_tokens}
 use Rattle.expr_grammar.specs.Form.{Form, Empty, Listed, Span, Rule, Joined, Inverse, Forms}
+use Rattle.expr_grammar.specs.Grammar.{nesting_limit}
 
 -- An operand that is itself joined by an operator stands in brackets.
 abbrev pub is_joined : Form → Bool
@@ -28,7 +30,8 @@ NestsWithin Empty depth = Unit {0}
 NestsWithin (Listed ms) depth = Unit {0}
 NestsWithin (Span low high) depth = Unit {0}
 NestsWithin (Rule freq fields) depth = Unit {0}
-NestsWithin (Joined op a b) depth = AsOperand (is_joined a) (NestsWithin a) depth × AsOperand (is_joined b) (NestsWithin b) depth
+NestsWithin (Joined op a b) depth =
+    AsOperand (is_joined a) (NestsWithin a) depth × AsOperand (is_joined b) (NestsWithin b) depth
 NestsWithin (Inverse t) depth = OneDeeper (AsOperand (is_joined t) (NestsWithin t)) depth
 
 -- how many expressions stand in one another
@@ -74,15 +77,20 @@ abbrev pub bounds_tokens : Option SpanBound → Option SpanBound → List Token
 bounds_tokens None None = []
 bounds_tokens (Some a) None = tokens.Word (low_word a.closed) ∷ tokens.Moment a.stamp ∷ []
 bounds_tokens None (Some b) = tokens.Word (high_word b.closed) ∷ tokens.Moment b.stamp ∷ []
-bounds_tokens (Some a) (Some b) = tokens.Word (low_word a.closed) ∷ tokens.Moment a.stamp ∷ tokens.Comma ∷ tokens.Word (high_word b.closed) ∷ tokens.Moment b.stamp ∷ []
+bounds_tokens (Some a) (Some b) =
+    tokens.Word (low_word a.closed) ∷ tokens.Moment a.stamp ∷ tokens.Comma
+    ∷ tokens.Word (high_word b.closed) ∷ tokens.Moment b.stamp ∷ []
 
 -- the tokens of the printed form
 unfoldable pub spelled : Form → List Token
 spelled Empty = tokens.Word words.Empty ∷ tokens.Open ∷ tokens.Close ∷ []
 spelled (Listed ms) = tokens.LeftBrace ∷ list_tokens ms
 spelled (Rule freq fields) = rule_tokens freq fields
-spelled (Span low high) = tokens.Word words.Span ∷ tokens.Open ∷ bounds_tokens low high ++ tokens.Close ∷ []
-spelled (Joined op a b) = in_brackets (is_joined a) (spelled a) ++ tokens.Operator op ∷ in_brackets (is_joined b) (spelled b)
+spelled (Span low high) =
+    tokens.Word words.Span ∷ tokens.Open ∷ bounds_tokens low high ++ tokens.Close ∷ []
+spelled (Joined op a b) =
+    in_brackets (is_joined a) (spelled a) ++ tokens.Operator op ∷ in_brackets (is_joined b)
+    (spelled b)
 spelled (Inverse t) = tokens.Exclamation ∷ in_brackets (is_joined t) (spelled t)
 
 abbrev pub spelled_second : Option Form → List Token
@@ -93,12 +101,13 @@ abbrev pub spelled_program : Forms → List Token
 spelled_program p = spelled p.first ++ spelled_second p.second
 
 abbrev pub IsPrintableForm : Form → Type 0
-IsPrintableForm t = HasTokens t × (height t ≤ 128)
+IsPrintableForm t = HasTokens t × (height t ≤ nesting_limit)
 
 abbrev pub IsPrintableSecond : Option Form → Type 0
 IsPrintableSecond None = Unit {0}
 IsPrintableSecond (Some t) = IsPrintableForm t
 
--- no list is empty, rules have each key once and its numbers, and each expression is at most 128 high
+-- no list is empty, rules have each key once and its numbers, and no expression is higher than
+-- round brackets and signs may nest
 abbrev pub IsPrintable : Forms → Type 0
 IsPrintable p = IsPrintableForm p.first × IsPrintableSecond p.second

@@ -1,4 +1,5 @@
--- Reading an expression from left to right, in the order of the parser: just what the grammar spells.
+-- Reading an expression from left to right, in the order of the parser: just what the grammar
+-- spells.
 use Rattle.std.specs.Prelude.{◌≡◌, ℕ, zero, suc, ℤ, List, [], ◌∷◌, ◌++◌, length, drop, Bool, true, false, Option, Some, None, Result, Ok, Err, if◌then◌else◌, ◌==◌}
 use Rattle.std.specs.List.{list_any}
 use Rattle.std.specs.Global.{Vec}
@@ -22,6 +23,7 @@ use Rattle.expr_grammar.specs.declared.syntax.SpanBound.{SpanBound}
 use Rattle.expr_grammar.specs.declared.syntax.SyntaxTree.{SyntaxTree}
 use Rattle.expr_grammar.specs.Syntax.{field_form, form_of}
 use Rattle.expr_grammar.specs.Fields.{is_single, same_key}
+use Rattle.expr_grammar.specs.Grammar.{nesting_limit}
 use Rattle.expr_grammar.specs.Form.{FieldForm, Values, Start, Form, Empty, Listed, Span, Rule, Joined, Inverse, Forms}
 
 infixl 10 ◌>>=◌
@@ -47,7 +49,8 @@ abbrev pub ReadsTree : Result (SyntaxTree × Bor (List Placed)) ParseFault → R
 ReadsTree result read = Gives (λ x. (form_of x.0, plains x.1.now)) result read
 
 -- the same of a list of moments
-abbrev pub ReadsMoments : Result (Vec (Option Stamp) × Bor (List Placed)) ParseFault → Option (List (Option Stamp) × List Token) → Type 0
+abbrev pub ReadsMoments : Result (Vec (Option Stamp) × Bor (List Placed)) ParseFault
+    → Option (List (Option Stamp) × List Token) → Type 0
 ReadsMoments result read = Gives (λ x. (x.0.items, plains x.1.now)) result read
 
 abbrev pub same : Op → Op → Bool
@@ -81,7 +84,8 @@ abbrev pub expr_at : (List Token → Read) → List Token → Read
 expr_at atom = chain_at (operand_at atom operators.Union) operators.Union
 
 -- the list with a moment before it
-abbrev pub with_first : Option Stamp → Option (List (Option Stamp) × List Token) → Option (List (Option Stamp) × List Token)
+abbrev pub with_first : Option Stamp → Option (List (Option Stamp) × List Token)
+    → Option (List (Option Stamp) × List Token)
 with_first m read = read >>= λ ms. Some (m ∷ ms.0, ms.1)
 
 -- { "," moment } "}"
@@ -91,7 +95,8 @@ moments_at (tokens.Comma ∷ tokens.Moment m ∷ ts) = with_first m (moments_at 
 moments_at ts = None
 
 -- where no moment follows
-unfoldable pub moments_end_at : List (Option Stamp) → List Token → Option (List (Option Stamp) × List Token)
+unfoldable pub moments_end_at : List (Option Stamp) → List Token
+    → Option (List (Option Stamp) × List Token)
 moments_end_at found (tokens.RightBrace ∷ ts) = Some (found, ts)
 moments_end_at found ts = None
 
@@ -107,8 +112,10 @@ close_at t (tokens.Close ∷ ts) = Some (t, ts)
 close_at t ts = None
 
 abbrev pub high_at : List Token → Option (SpanBound × List Token)
-high_at (tokens.Word words.End ∷ tokens.Moment m ∷ ts) = Some (record { closed = true; stamp = m }, ts)
-high_at (tokens.Word words.Before ∷ tokens.Moment m ∷ ts) = Some (record { closed = false; stamp = m }, ts)
+high_at (tokens.Word words.End ∷ tokens.Moment m ∷ ts) =
+    Some (record { closed = true; stamp = m }, ts)
+high_at (tokens.Word words.Before ∷ tokens.Moment m ∷ ts) =
+    Some (record { closed = false; stamp = m }, ts)
 high_at ts = None
 
 -- high ")"
@@ -123,8 +130,10 @@ low_end_at low ts = close_at (Span (Some low) None) ts
 -- [ low [ "," high ] | high ] ")"
 unfoldable pub span_at : List Token → Read
 span_at (tokens.Close ∷ ts) = Some (Span None None, ts)
-span_at (tokens.Word words.Start ∷ tokens.Moment m ∷ ts) = low_end_at (record { closed = true; stamp = m }) ts
-span_at (tokens.Word words.After ∷ tokens.Moment m ∷ ts) = low_end_at (record { closed = false; stamp = m }) ts
+span_at (tokens.Word words.Start ∷ tokens.Moment m ∷ ts) =
+    low_end_at (record { closed = true; stamp = m }) ts
+span_at (tokens.Word words.After ∷ tokens.Moment m ∷ ts) =
+    low_end_at (record { closed = false; stamp = m }) ts
 span_at ts = high_end_at None ts
 
 abbrev pub freq_named : Word → Option Freq
@@ -155,7 +164,8 @@ key_named w = None
 
 -- key "=" number
 abbrev pub number_at : List Token → Option ((Key × ℤ) × List Token)
-number_at (tokens.Word w ∷ tokens.Equals ∷ tokens.Number n ∷ ts) = key_named w >>= λ key. Some ((key, n), ts)
+number_at (tokens.Word w ∷ tokens.Equals ∷ tokens.Number n ∷ ts) =
+    key_named w >>= λ key. Some ((key, n), ts)
 number_at ts = None
 
 -- "," number
@@ -204,7 +214,8 @@ unfoldable pub fields_from : ℕ → List FieldForm → List Token → Option (L
 fields_from zero found ts = None
 fields_from (suc n) found ts = if is_close ts
     then Some (found, drop 1 ts)
-    else field_at ts >>= λ f. if has_key f.0 found then None else fields_from n (found ++ f.0 ∷ []) f.1
+    else field_at ts >>= λ f. if has_key f.0 found then None
+    else fields_from n (found ++ f.0 ∷ []) f.1
 
 abbrev pub with_freq : Freq → Option (List FieldForm × List Token) → Read
 with_freq freq read = read >>= λ fields. Some (Rule freq fields.0, fields.1)
@@ -237,7 +248,9 @@ deeper_at depth = nested_at (expr_at (atom_at depth)) (atom_at depth)
 
 -- the second expression, where nothing stands behind it
 unfoldable pub second_at : Form → List Token → Option Forms
-second_at t ts = expr_at (atom_at 128) ts >>= λ u. if length u.1 == 0 then Some (record { first = t; second = Some u.0 }) else None
+second_at t ts =
+    expr_at (atom_at nesting_limit) ts >>= λ u. if length u.1 == 0
+    then Some (record { first = t; second = Some u.0 }) else None
 
 unfoldable pub program_end_at : Form → List Token → Option Forms
 program_end_at t [] = Some (record { first = t; second = None })
@@ -245,7 +258,7 @@ program_end_at t (tokens.Semicolon ∷ ts) = second_at t ts
 program_end_at t ts = None
 
 unfoldable pub program_at : List Token → Option Forms
-program_at ts = expr_at (atom_at 128) ts >>= λ t. program_end_at t.0 t.1
+program_at ts = expr_at (atom_at nesting_limit) ts >>= λ t. program_end_at t.0 t.1
 
 -- how many operators bind tighter
 abbrev pub rank : Op → ℕ

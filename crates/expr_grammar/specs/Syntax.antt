@@ -66,4 +66,5 @@ shares_key f other = same_key (field_form other) (field_form f)
 
 -- the word isn't the name of a span, whose place would be kept
 abbrev pub NamesNoSpan : Word → Type 0
-NamesNoSpan w = (place : ℕ) (ts : List Placed) → span_places (placed.Word w place ∷ ts) ≡ span_places ts
+NamesNoSpan w =
+    (place : ℕ) (ts : List Placed) → span_places (placed.Word w place ∷ ts) ≡ span_places ts

@@ -9,5 +9,5 @@ mod syntax;
 
 pub use fault::ParseFault;
 pub use laws::grammar_laws;
-pub use parser::parse;
+pub use parser::{NESTING_LIMIT, parse};
 pub use syntax::{Field, Key, SpanBound, SyntaxTree, SyntaxTrees};

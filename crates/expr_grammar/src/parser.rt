@@ -304,16 +304,16 @@ fn chain<'t, 'a>(
 }
 
 /// How deep round brackets and signs may nest.
-const DEPTH: u8 = 128;
+pub const NESTING_LIMIT: u8 = 128;
 
 fn expression<'t, 'a>(
     alloc: Global,
     tokens: &'t [Token<'a>],
 ) -> Result<(SyntaxTree, &'t [Token<'a>]), ParseFault>
-    ensures read { ReadsTree result (expr_at (atom_at DEPTH) (plains tokens.now)) }
+    ensures read { ReadsTree result (expr_at (atom_at NESTING_LIMIT) (plains tokens.now)) }
     ensures places { IfOk result (KeepsPlaces (span_places tokens.now)) }
 {
-    chain(alloc, Op::Union, tokens, DEPTH)
+    chain(alloc, Op::Union, tokens, NESTING_LIMIT)
 }
 
 #[tactic(auto, unfolding(crate::specs::Parsing::second_at))]

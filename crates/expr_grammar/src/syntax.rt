@@ -50,7 +50,8 @@ pub enum SyntaxTree {
         low: Option<SpanBound>,
         high: Option<SpanBound>,
     },
-    /// `weekly( .. )` and its like, with the fields in the order of the text and each key at most once.
+    /// `weekly( .. )` and its like, with the fields in the order of the text and each key at most
+    /// once.
     Rule {
         freq: Freq,
         fields: Vec<Field>,

@@ -3,11 +3,11 @@ pub mod Spans
 pub mod Ranges
 pub mod Started
 pub mod Moments
+pub mod Making
 pub mod Places
 pub mod Positions
 pub mod Sorting
 pub mod Signs
-pub mod FieldTexts
 pub mod RulesBack
 pub mod RuleText
 pub mod Written

@@ -17,17 +17,15 @@ use Rattle.expr_grammar.specs.Grammar.{Spells}
 use Rattle.expr_grammar.specs.Laws.{MomentsAreKept}
 use Rattle.expr_grammar.specs.Made.{HasMoment, BoundHas, IsDated, IsMade, AreMade}
 use Rattle.moment_core.proofs.Lists.{all_front, all_behind}
-use Rattle.expr_tree.specs.Sorts.{nodes_of}
 use Rattle.expr_tree.specs.Tree.{Rule, Field, Tree, Empty, Spanned, Ruled, Joined, Not, Trees}
-use Rattle.expr_tree.specs.WellFormed.{HasClock, IsWellFormed}
+use Rattle.expr_tree.specs.WellFormed.{AreWellFormed, HasClock, IsWellFormed}
 use Rattle.rule_core.specs.FieldChecks.{check_of}
 use Rattle.expr_text.specs.Rules.{rule_with}
 use Rattle.expr_text.proofs.Started.{checked, neither, started}
-use Rattle.expr_text.specs.Accepted.{AreWellFormed}
 use Rattle.expr_text.specs.Faults.{HasPosition, Tokens, all_spans_of, first_nameless, is_nameless, kinds_of, first_rule_fault, rule_fault, second_rule_fault, second_spans, spans_of}
-use Rattle.expr_text.specs.Phases.{AreBoth, HasGivenBounds, HasSpans, IsInRange, IsSecond}
+use Rattle.expr_text.specs.Phases.{AreBoth, HasSpans, IsInRange, IsSecond}
 use Rattle.expr_text.specs.Phases.{first_nameless as nameless_in}
-use Rattle.expr_text.specs.Trees.{both, bound_at, bound_of, clock_at, clock_of, is_named, is_some, listed, size_of, stamps_of, tree_from, trees_from}
+use Rattle.expr_text.specs.Trees.{both, bound_at, bound_of, clock_at, clock_of, is_named, is_some, listed, stamps_of, tree_from, trees_from}
 
 dated_token : (t : Token) → IsInRange t → is_nameless t ≡ false → HasMoment IsDated t
 dated_token (tokens.Moment None) h named = absurd cc
@@ -70,7 +68,7 @@ given_at closed None h = absurd h
 given_at true (Some s) h = h
 given_at false (Some s) h = h
 
-given : (b : Option SpanBound) → BoundHas IsDated b → IsGiven (bound_of b)
+pub given : (b : Option SpanBound) → BoundHas IsDated b → IsGiven (bound_of b)
 given None h = tt
 given (Some b) h = given_at b.closed b.stamp h
 
@@ -81,21 +79,6 @@ some_dated (Some s) h = refl
 pub named : (b : Option SpanBound) → BoundHas IsDated b → is_named b ≡ true
 named None h = refl
 named (Some b) h = some_dated b.stamp h
-
-given_bounds : (t : Form) → IsMade IsDated t → HasGivenBounds t
-given_bounds forms.Empty h = tt
-given_bounds (forms.Listed ms) h = tt
-given_bounds (forms.Span low high) h = (given low h.0, given high h.1)
-given_bounds (forms.Rule freq fields) h = tt
-given_bounds (forms.Joined op a b) h = (given_bounds a h.0, given_bounds b h.1)
-given_bounds (forms.Inverse a) h = given_bounds a h
-
-second_given : (o : Option Form) → IsSecond (IsMade IsDated) o → IsSecond HasGivenBounds o
-second_given None h = tt
-second_given (Some t) h = given_bounds t h
-
-pub all_given : (p : Forms) → AreBoth (IsMade IsDated) p → AreBoth HasGivenBounds p
-all_given p h = (given_bounds p.first h.0, second_given p.second h.1)
 
 has_spans : (t : Form) → IsMade IsDated t → AllByRecursion HasPosition (spans_of t) → HasSpans t
 has_spans forms.Empty h held = tt
@@ -151,15 +134,14 @@ has_clock : (b : Option SpanBound) → BoundHas IsDated b → HasClock (bound_of
 has_clock None h = ((λ _. refl), (λ _. refl))
 has_clock (Some b) h = clock_at_bound b.closed b.stamp h
 
--- a well-formed tree of the expression's size
+-- a tree, which is well formed where its rules have no fault
 pub record Stands (t : Form) : Type 0 where
   pub tree : Tree Rule
   pub is : tree_from t ≡ Some tree
   pub well_formed : rule_fault t ≡ None → IsWellFormed tree
-  pub size : nodes_of tree ≡ size_of t
 
 pub stands : (t : Form) → IsMade IsDated t → HasSpans t → Stands t
-stands forms.Empty h spans = record { tree = Empty; is = refl; well_formed = λ none. tt; size = refl }
+stands forms.Empty h spans = record { tree = Empty; is = refl; well_formed = λ none. tt }
 stands (forms.Listed []) h spans = absurd h
 stands (forms.Listed (None ∷ ms)) h spans = absurd h.0
 stands (forms.Listed (Some s ∷ ms)) h spans =
@@ -168,13 +150,11 @@ stands (forms.Listed (Some s ∷ ms)) h spans =
       tree = listed (s ∷ others.stamps);
       is = rw others.are refl;
       well_formed = λ none. (omega arith, All-from_recursion (λ (x : Stamp). IsCalendarMoment x.moment.0) (s ∷ others.stamps) (h.0, others.in_range));
-      size = refl;
     }
 stands (forms.Span low high) h spans = record {
   tree = Spanned (bound_of low, bound_of high) (clock_of low) (clock_of high);
   is = rw (named low h.0, named high h.1) refl;
   well_formed = λ none. (spans, has_clock low h.0, has_clock high h.1);
-  size = refl;
 }
 stands (forms.Rule freq fields) h spans =
     let x = started fields h.0 in
@@ -182,13 +162,12 @@ stands (forms.Rule freq fields) h spans =
       tree = Ruled (Field (rule_with freq fields x.start));
       is = rw x.found refl;
       well_formed = λ none. (checked (check_of (rule_with freq fields x.start)) (rw x.found at none), x.in_range);
-      size = refl;
     }
 stands (forms.Joined op a b) h spans =
     let x = stands a h.0 spans.0 in
     let y = stands b h.1 spans.1 in
-    record { tree = Joined op x.tree y.tree; is = rw (x.is, y.is) refl; well_formed = λ none. let both = neither (rule_fault a) (rule_fault b) none in (x.well_formed both.0, y.well_formed both.1); size = omega (arith, x.size, y.size) }
-stands (forms.Inverse a) h spans = let x = stands a h spans in record { tree = Not x.tree; is = rw x.is refl; well_formed = x.well_formed; size = omega (arith, x.size) }
+    record { tree = Joined op x.tree y.tree; is = rw (x.is, y.is) refl; well_formed = λ none. let both = neither (rule_fault a) (rule_fault b) none in (x.well_formed both.0, y.well_formed both.1) }
+stands (forms.Inverse a) h spans = let x = stands a h spans in record { tree = Not x.tree; is = rw x.is refl; well_formed = x.well_formed }
 
 -- the same of one or two expressions
 pub record AllStand (p : Forms) : Type 0 where

@@ -18,7 +18,8 @@ use Rattle.rule_core.specs.declared.part.RuleFault.{RuleFault}
 use Rattle.expr_tree.specs.declared.sorting.SortFault.{SortFault}
 use Rattle.expr_text.specs.Fault.{Fault}
 use Rattle.expr_text.specs.Fault as faults
-use Rattle.expr_text.specs.Accepted.{AreWellFormed, HasPositions, IsRead, IsSorted, IsSpelled, Spelling, held, or_nameless, or_rule_fault, sorted, spelled, tokens_in, unless_long, unless_nameless, unless_rule_fault, unless_unbuilt, unsorted, unspelled, vacant, with_places}
+use Rattle.expr_text.specs.Accepted.{HasPositions, IsRead, IsSorted, IsSpelled, Spelling, held, or_nameless, or_rule_fault, sorted, spelled, tokens_in, unless_long, unless_nameless, unless_rule_fault, unless_unbuilt, unsorted, unspelled, vacant, with_places}
+use Rattle.expr_tree.specs.WellFormed.{AreWellFormed}
 use Rattle.expr_text.specs.Calls.{calls_unbuilt}
 use Rattle.phases.specs.Phases.{By, IsPhase, fails}
 use Rattle.expr_text.specs.Faults.{Tokens, all_spans_of, first_nameless, first_rule_fault, is_span_name, kinds_of, second_spans, sort_fault, span_places, spans_of}

@@ -31,23 +31,24 @@ use Rattle.expr_grammar.specs.declared.syntax.Key.{Key}
 use Rattle.expr_grammar.specs.declared.syntax.Key.TheVariants as keys
 use Rattle.expr_grammar.specs.Fields.{field_tokens, fields_tokens, freq_word, key_word, more_numbers, rule_tokens}
 use Rattle.expr_grammar.specs.Form.{FieldForm, Values, Start}
-use Rattle.expr_tree.specs.WellFormed.{IsWellFormed}
-use Rattle.expr_text.specs.Fields.{interval_printed}
+use Rattle.expr_tree.specs.WellFormed.{AreWellFormed}
+use Rattle.expr_print.specs.Fields.{interval_printed}
 use Rattle.expr_text.proofs.RulesBack.{rule_back, with_numbers, with_start, written_fields}
 use Rattle.expr_text.proofs.RuleText.{rule_lexes}
 use Rattle.expr_grammar.specs.Nesting.{bounds_tokens, high_word, in_brackets, is_joined, low_word, more_tokens, spelled, spelled_program, spelled_second}
 use Rattle.moment_core.proofs.Lists.{all_both}
 use Rattle.expr_grammar.specs.Laws.{PrintedIsSpelled}
-use Rattle.expr_tree.specs.Tree.{Rule, Listed, Field, Tree, Empty, Spanned, Ruled, Joined, Not, Trees}
-use Rattle.expr_text.specs.Accepted.{AreRead, AreWellFormed, IsRead, IsWellFormedSecond, held, sorted, spelled as spelled_so}
+use Rattle.expr_tree.specs.Tree.{Rule, Listed, Field, Ical, Tree, Empty, Spanned, Ruled, Joined, Not, Trees}
+use Rattle.expr_text.specs.Accepted.{AreRead, IsRead, held, sorted, spelled as spelled_so}
 use Rattle.expr_text.specs.declared.fault.TheConstants.{LONGEST}
 use Rattle.phases.specs.Phases.{goes_on}
 use Rattle.expr_text.specs.Calls.{calls_unbuilt, names_unbuilt}
 use Rattle.expr_text.specs.Faults.{HasPosition, Tokens, first_nameless, first_rule_fault, is_nameless, kinds_of, rule_fault, second_rule_fault, second_spans, sort_fault, spans_of}
-use Rattle.expr_text.specs.Printing.{bracketed, comma_text, high_text, is_at_moment, is_join, low_text, moment_text, next_stamp, print, print_program, print_second, sign_text, stamp_text}
+use Rattle.expr_print.specs.Printing.{bracketed, comma_text, high_text, is_at_moment, is_join, low_text, moment_text, next_stamp, print, print_program, print_second, sign_text, stamp_text}
 use Rattle.expr_text.specs.Trees.{bound_of}
 use Rattle.expr_text.proofs.Places.{short_text, stand_in}
-use Rattle.expr_text.proofs.Written.{all_printable, all_written, bound_back, joined_same, literals_of, stamp_at, trees_back, written, written_bound}
+use Rattle.expr_text.specs.Laws.{HasNoRrule, HasNoSecondRrule}
+use Rattle.expr_text.proofs.Written.{AreShown, IsShown, IsShownSecond, all_printable, all_shown, all_written, bound_back, joined_same, literals_of, stamp_at, trees_back, written, written_bound}
 
 along : (a b : List ℕ) (ts : List Token) (rest : List ℕ) → a ≡ b → Lexes b ts rest → Lexes a ts rest
 along a b ts rest e h = subst (λ (x : List ℕ). Lexes x ts rest) (sym e) h
@@ -186,22 +187,23 @@ named_fields r =
     (numbers_named keys.Minutes r.minutes _ (numbers_named keys.Seconds r.seconds _ (numbers_named keys.Interval (interval_printed r.interval) _
     (start_named r.start _ (numbers_named keys.WeekStart (option_to_list r.week_start) [] tt))))))))
 
-no_fault : (t : Tree Rule) → IsWellFormed t → rule_fault (written t) ≡ None
+no_fault : (t : Tree Rule) → IsShown t → rule_fault (written t) ≡ None
 no_fault Empty h = refl
 no_fault (Ruled (Listed stamps)) h = refl
 no_fault (Spanned bounds low high) h = refl
 no_fault (Ruled (Field rule)) h = rw (rule_back rule, h.0) refl
+no_fault (Ruled (Ical rule)) h = absurd h
 no_fault (Joined op a b) h = rw (no_fault a h.0, no_fault b h.1) refl
 no_fault (Not a) h = no_fault a h
 
-no_second_fault : (o : Option (Tree Rule)) → IsWellFormedSecond o → second_rule_fault (option_map written o) ≡ None
+no_second_fault : (o : Option (Tree Rule)) → IsShownSecond o → second_rule_fault (option_map written o) ≡ None
 no_second_fault None h = refl
 no_second_fault (Some t) h = no_fault t h
 
-no_rule_fault : (p : Trees) → AreWellFormed p → first_rule_fault (all_written p) ≡ None
+no_rule_fault : (p : Trees) → AreShown p → first_rule_fault (all_written p) ≡ None
 no_rule_fault p h = rw (no_fault p.first h.0, no_second_fault p.second h.1) refl
 
-plain_spelled : (t : Tree Rule) → IsWellFormed t → ArePlain (spelled (written t))
+plain_spelled : (t : Tree Rule) → IsShown t → ArePlain (spelled (written t))
 unfolding spelled
 plain_spelled Empty h = ((refl, refl), ((refl, refl), ((refl, refl), tt)))
 plain_spelled (Ruled (Listed [])) h = absurd (omega (arith, h.0))
@@ -209,10 +211,11 @@ plain_spelled (Ruled (Listed (s ∷ ss))) h = ((refl, refl), ((refl, refl), plai
 plain_spelled (Spanned bounds low high) h =
     ((refl, refl), ((refl, refl), all_both IsPlain (bounds_tokens (written_bound bounds.0 low) (written_bound bounds.1 high)) (tokens.Close ∷ []) (plain_bounds bounds.0 bounds.1 low high) ((refl, refl), tt)))
 plain_spelled (Ruled (Field rule)) h = plain_rule rule.freq (written_fields rule) (named_fields rule)
+plain_spelled (Ruled (Ical rule)) h = absurd h
 plain_spelled (Joined op a b) h = plain_joined op (is_joined (written a)) (is_joined (written b)) (spelled (written a)) (spelled (written b)) (plain_spelled a h.0) (plain_spelled b h.1)
 plain_spelled (Not a) h = ((refl, refl), plain_brackets (is_joined (written a)) (spelled (written a)) (plain_spelled a h))
 
-plain_second : (o : Option (Tree Rule)) → IsWellFormedSecond o → ArePlain (spelled_second (option_map written o))
+plain_second : (o : Option (Tree Rule)) → IsShownSecond o → ArePlain (spelled_second (option_map written o))
 plain_second None h = tt
 plain_second (Some t) h = ((refl, refl), plain_spelled t h)
 
@@ -225,17 +228,18 @@ no_nameless : (ts : Tokens) → ArePlain (kinds_of ts) → first_nameless ts ≡
 no_nameless [] h = refl
 no_nameless (t ∷ ts) h = rw (h.0.1) (no_nameless ts h.1)
 
-spans_held : (t : Tree Rule) → IsWellFormed t → AllByRecursion HasPosition (spans_of (written t))
+spans_held : (t : Tree Rule) → IsShown t → AllByRecursion HasPosition (spans_of (written t))
 spans_held Empty h = tt
 spans_held (Ruled (Listed stamps)) h = tt
 spans_held (Spanned bounds low high) h =
     let position : HasPosition (bound_of (written_bound bounds.0 low), bound_of (written_bound bounds.1 high)) = rw (bound_back bounds.0 low h.0.low_given, bound_back bounds.1 high h.0.high_given) h.0.some in
     (position, tt)
 spans_held (Ruled (Field rule)) h = tt
+spans_held (Ruled (Ical rule)) h = absurd h
 spans_held (Joined op a b) h = all_both HasPosition (spans_of (written a)) (spans_of (written b)) (spans_held a h.0) (spans_held b h.1)
 spans_held (Not a) h = spans_held a h
 
-second_held : (o : Option (Tree Rule)) → IsWellFormedSecond o → AllByRecursion HasPosition (second_spans (option_map written o))
+second_held : (o : Option (Tree Rule)) → IsShownSecond o → AllByRecursion HasPosition (second_spans (option_map written o))
 second_held None h = tt
 second_held (Some t) h = spans_held t h
 
@@ -360,29 +364,30 @@ module _ (program_spelled : PrintedIsSpelled) (writing : Writing) (fit : FieldVa
       three x (sign_text op) y (in_brackets (is_joined (written a)) (spelled (written a))) (tokens.Operator op ∷ []) (in_brackets (is_joined (written b)) (spelled (written b))) rest
       (operand_lexes a ((sign_text op ++ y) ++ rest) first) (sign_lexes op (y ++ rest)) (operand_lexes b rest second)
 
-  print_lexes : (t : Tree Rule) (rest : List ℕ) → IsWellFormed t → Lexes (print t) (spelled (written t)) rest
+  print_lexes : (t : Tree Rule) (rest : List ℕ) → IsShown t → Lexes (print t) (spelled (written t)) rest
   unfolding print spelled
   print_lexes Empty rest h = empty_call rest
   print_lexes (Ruled (Listed [])) rest h = absurd (omega (arith, h.0))
   print_lexes (Ruled (Listed (s ∷ ss))) rest h = list_lexes s ss rest (recursion_from_All (λ (x : Stamp). IsCalendarMoment x.moment.0) (s ∷ ss) h.1)
   print_lexes (Spanned bounds low high) rest h = span_lexes bounds.0 bounds.1 low high rest h.0.low_given h.0.high_given
   print_lexes (Ruled (Field rule)) rest h = rule_lexes writing fit intervals rule rest h.0 h.1
+  print_lexes (Ruled (Ical rule)) rest h = absurd h
   print_lexes (Joined op a b) rest h = joined_lexes op a b rest (λ r. print_lexes a r h.0) (λ r. print_lexes b r h.1)
   print_lexes (Not a) rest h =
       writing.parts (codes "!") (bracketed (is_join a) (print a)) (tokens.Exclamation ∷ []) (in_brackets (is_joined (written a)) (spelled (written a))) rest
       (Lexes-exclamation writing (bracketed (is_join a) (print a) ++ rest)) (operand_lexes a rest (λ r. print_lexes a r h))
 
-  second_lexes : (o : Option (Tree Rule)) → IsWellFormedSecond o → Lexes (print_second o) (spelled_second (option_map written o)) []
+  second_lexes : (o : Option (Tree Rule)) → IsShownSecond o → Lexes (print_second o) (spelled_second (option_map written o)) []
   second_lexes None h = writing.nothing []
   second_lexes (Some t) h =
       writing.parts (codes " ; ") (print t) (tokens.Semicolon ∷ []) (spelled (written t)) [] (spaced 59 tokens.Semicolon (print t ++ []) (Lexes-semicolon writing (32 ∷ (print t ++ [])))) (print_lexes t [] h)
 
-  program_lexes : (p : Trees) → AreWellFormed p → Lexes (print_program p) (spelled_program (all_written p)) []
+  program_lexes : (p : Trees) → AreShown p → Lexes (print_program p) (spelled_program (all_written p)) []
   program_lexes p h =
       writing.parts (print p.first) (print_second p.second) (spelled (written p.first)) (spelled_second (option_map written p.second)) []
       (print_lexes p.first (print_second p.second ++ []) h.0) (second_lexes p.second h.1)
 
-  trees_accepted : (p : Trees) → AreWellFormed p → sort_fault p ≡ None → (ts : Tokens) → kinds_of ts ≡ spelled_program (all_written p)
+  trees_accepted : (p : Trees) → AreShown p → sort_fault p ≡ None → (ts : Tokens) → kinds_of ts ≡ spelled_program (all_written p)
       → AreRead ts (Ok p)
   trees_accepted p h sort ts same =
       let all : ArePlain (spelled_program (all_written p)) = all_both IsPlain (spelled (written p.first)) (spelled_second (option_map written p.second)) (plain_spelled p.first h.0) (plain_second p.second h.1) in
@@ -396,8 +401,9 @@ module _ (program_spelled : PrintedIsSpelled) (writing : Writing) (fit : FieldVa
       (goes_on (all_written p) (Ok p) (rw (no_rule_fault p h) refl) (sorted p (trees_back p h) sort)))))
 
   -- the printed form is read as the trees
-  pub printed_is_read : (p : Trees) → AreWellFormed p → sort_fault p ≡ None → length (print_program p) ≤ LONGEST → IsRead (print_program p) (Ok p)
-  printed_is_read p h sort short =
+  pub printed_is_read : (p : Trees) → AreWellFormed p → HasNoRrule p.first × HasNoSecondRrule p.second → sort_fault p ≡ None → length (print_program p) ≤ LONGEST → IsRead (print_program p) (Ok p)
+  printed_is_read p formed none sort short =
+      let h = all_shown p formed none in
       let text = print_program p in
       let there = stand_in text (spelled_program (all_written p)) (writing.texts text (spelled_program (all_written p)) (program_lexes p h)) in
       goes_on text (Ok p) (short_text text short) (goes_on there.tokens (Ok p) there.read (trees_accepted p h sort there.tokens there.same))

@@ -31,7 +31,7 @@ use Rattle.expr_grammar.specs.declared.syntax.Key.{Key}
 use Rattle.expr_grammar.specs.declared.syntax.Key.TheVariants as keys
 use Rattle.expr_grammar.specs.Fields.{field_tokens, fields_tokens, freq_word, key_word, more_numbers, rule_tokens}
 use Rattle.expr_grammar.specs.Form.{FieldForm, Values, Start}
-use Rattle.expr_text.specs.Fields.{field_rule_text, interval_printed, next_field, next_number, numbers_before, printed_fields, start_before, with_spaces}
+use Rattle.expr_print.specs.Fields.{field_rule_text, interval_printed, next_field, next_number, numbers_before, printed_fields, start_before, with_spaces}
 use Rattle.expr_text.proofs.RulesBack.{with_numbers, with_start, written_fields}
 use Rattle.expr_text.proofs.Signs.{Writing, Lexes-close, Lexes-comma, Lexes-equals, Lexes-open}
 

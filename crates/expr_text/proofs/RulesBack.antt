@@ -10,7 +10,7 @@ use Rattle.expr_grammar.specs.declared.syntax.Key.{Key}
 use Rattle.expr_grammar.specs.declared.syntax.Key.TheVariants as keys
 use Rattle.expr_grammar.specs.Fields.{AreFields, HasNumbers, field_place, is_single, key_place, same_key}
 use Rattle.expr_grammar.specs.Form.{FieldForm, Values, Start}
-use Rattle.expr_text.specs.Fields.{interval_printed}
+use Rattle.expr_print.specs.Fields.{interval_printed}
 use Rattle.expr_text.specs.Rules.{first_of, interval_of, literal_in, numbers_of, rule_from, rule_with}
 
 abbrev pub with_numbers : Key → List ℤ → List FieldForm → List FieldForm

@@ -1,65 +1,37 @@
--- The last phase, from what is found of each expression.
-use Rattle.std.proofs.Common.{◌≡◌, ◌<◌, Option, Some, None, Ok, Err, refl, true, arith}
-use Rattle.std.specs.Prelude.{IfSome, nat_lt, option_map}
-use Rattle.std.proofs.lemmas.Bool.Decides.{nat_tests}
-use Rattle.moment_core.specs.Clocks.{one_clock}
-use Rattle.moment_core.specs.declared.line.Clock.{Clock}
-use Rattle.expr_grammar.specs.Form.{Form, Forms}
-use Rattle.expr_grammar.specs.Made.{IsDated, IsMade}
-use Rattle.expr_tree.specs.Sorts.{nodes_of, sort_of_tree}
-use Rattle.expr_tree.specs.Tree.{Rule, Tree}
+-- The phases behind that of the literals, from what is made of the expressions.
+use Rattle.std.proofs.Common.{◌≡◌, ℕ, List, Option, Some, None, Result, Ok, Err, subst, ap, ◌∙◌, sym}
+use Rattle.std.specs.Prelude.{IfSome, option_map}
+use Rattle.phases.specs.Phases.{By, Then, fails, goes_on}
+use Rattle.expr_tree.specs.Tree.{Trees, trees_of}
 use Rattle.expr_tree.specs.declared.sorting.SortFault.{SortFault}
-use Rattle.expr_tree.specs.declared.sorting.SortFault.TheVariants as sorts
+use Rattle.expr_tree.specs.declared.tree.Program.{Program}
+use Rattle.expr_text.specs.Accepted.{HasPositions, IsSorted, Spelling, held, or_rule_fault, sorted, unless_rule_fault, unsorted, vacant}
 use Rattle.expr_text.specs.Fault.{Fault}
 use Rattle.expr_text.specs.Fault as faults
-use Rattle.expr_text.specs.declared.sorted.SortedSet.{SortedSet}
-use Rattle.expr_text.specs.Accepted.{IsSorted, sorted, unsorted}
-use Rattle.expr_text.specs.Phases.{AreBoth, GivesSorted, HasSortFault, HasSpans, IsSecond}
-use Rattle.expr_text.specs.Sorted.{tree_of_set}
-use Rattle.expr_text.specs.Trees.{size_of}
-use Rattle.expr_text.proofs.Moments.{stands}
+use Rattle.expr_text.specs.Faults.{FirstVacant, all_spans_of, sort_fault, span_places}
+use Rattle.expr_text.specs.Making.{AreMadeOf, HasPartFault}
 
-too_many : (t : Tree Rule) → 1024 < nodes_of t → sort_of_tree t ≡ Err sorts.Nodes
-too_many t many = let e : nat_lt 1024 (nodes_of t) ≡ true = grind (arith, nat_tests) in rw e refl
+abbrev AreParts : Spelling → Result Trees Fault → Type 0
+AreParts = Then HasPositions (Then (By unless_rule_fault) IsSorted)
 
-pub nodes_fault : (t : Form) → IsMade IsDated t → HasSpans t → 1024 < size_of t → HasSortFault t (faults.Sort sorts.Nodes)
-nodes_fault t made spans many = let x = stands t made spans in (x.tree, x.is, too_many x.tree (omega (arith, x.size, many)))
+module _ (s : Spelling) where
+  -- a span without a position, or a fault of a rule
+  pub part_fault : (ps : List ℕ) (o : Option Fault) → ps ≡ span_places s.tokens → IfSome o (HasPartFault s.forms ps)
+      → IfSome (option_map (λ (f : Fault). Err f) o) (AreParts s)
+  part_fault ps None e h = tt
+  part_fault ps (Some (faults.Moment byte)) e h =
+      fails (faults.Moment byte) (vacant byte (subst (λ (qs : List ℕ). FirstVacant (all_spans_of s.forms) qs byte) e h))
+  part_fault ps (Some (faults.Rule fault)) e h =
+      goes_on s.forms _ (held h.0) (fails (faults.Rule fault) (ap (or_rule_fault s.forms) (sym h.1)))
+  part_fault ps (Some fault) e h = absurd h
 
--- one expression
-abbrev one_form : Form → Forms
-one_form t = record { first = t; second = None }
+  module _ (sets : Program) (made : AreMadeOf s.forms sets) where
+    past_parts : (r : Result Trees Fault) → IsSorted s.forms r → AreParts s r
+    past_parts r h = goes_on s.forms r (held made.held) (goes_on s.forms r (ap (or_rule_fault s.forms) (sym made.ruled)) h)
 
-abbrev two_forms : Form → Form → Forms
-two_forms t u = record { first = t; second = Some u }
+    -- the sets have sorts, or a fault
+    pub parts_sorted : (trees : Trees) → trees ≡ trees_of sets → sort_fault (trees_of sets) ≡ None → AreParts s (Ok trees)
+    parts_sorted trees e none = past_parts (Ok trees) (sorted trees (made.trees ∙ ap (λ (x : Trees). Some x) (sym e)) (ap sort_fault e ∙ none))
 
-pub alone_sorted : (t : Form) (x : SortedSet) → GivesSorted t (Ok x) → IsSorted (one_form t) (Ok (record { first = tree_of_set x; second = None }))
-alone_sorted t x h = sorted (record { first = tree_of_set x; second = None }) (rw h.0 refl) (rw h.1 refl)
-
-first_unsorted : (t : Form) (o : Option Form) (f : SortFault) → IsSecond (IsMade IsDated) o → IsSecond HasSpans o → HasSortFault t (faults.Sort f) → IsSorted (record { first = t; second = o }) (Err (faults.Sort f))
-first_unsorted t None f made spans h = unsorted (record { first = h.0; second = None }) f (rw h.1 refl) (rw h.2 refl)
-first_unsorted t (Some u) f made spans h =
-    let y = stands u made spans in
-    unsorted (record { first = h.0; second = Some y.tree }) f (rw (h.1, y.is) refl) (rw h.2 refl)
-
--- a fault of the first expression
-pub first_fault : (p : Forms) (o : Option Fault) → AreBoth (IsMade IsDated) p → AreBoth HasSpans p → IfSome o (HasSortFault p.first)
-    → IfSome (option_map (λ (f : Fault). Err f) o) (IsSorted p)
-first_fault p None made spans h = tt
-first_fault p (Some (faults.Sort f)) made spans h = first_unsorted p.first p.second f made.1 spans.1 h
-first_fault p (Some fault) made spans h = absurd h
-
--- a fault of the second one
-pub second_fault : (t u : Form) (x : SortedSet) (o : Option Fault) → GivesSorted t (Ok x) → IfSome o (HasSortFault u)
-    → IfSome (option_map (λ (f : Fault). Err f) o) (IsSorted (two_forms t u))
-second_fault t u x None h k = tt
-second_fault t u x (Some (faults.Sort f)) h k = unsorted (record { first = tree_of_set x; second = Some k.0 }) f (rw (h.0, k.1) refl) (rw (h.1, k.2) refl)
-second_fault t u x (Some fault) h k = absurd k
-
--- a fault of their clocks, and none
-pub clocks_differ : (t u : Form) (x y : SortedSet) → GivesSorted t (Ok x) → GivesSorted u (Ok y) → one_clock x.sort.clock y.sort.clock ≡ None → IsSorted (two_forms t u) (Err (faults.Sort sorts.Clock))
-clocks_differ t u x y h k none = unsorted (record { first = tree_of_set x; second = Some (tree_of_set y) }) sorts.Clock (rw (h.0, k.0) refl) (rw (h.1, k.1, none) refl)
-
-pub both_sorted : (t u : Form) (x y : SortedSet) (o : Option Clock) → GivesSorted t (Ok x) → GivesSorted u (Ok y) → one_clock x.sort.clock y.sort.clock ≡ o → (o ≡ None → ⊥)
-    → IsSorted (two_forms t u) (Ok (record { first = tree_of_set x; second = Some (tree_of_set y) }))
-both_sorted t u x y None h k e some = absurd (some refl)
-both_sorted t u x y (Some clock) h k e some = sorted (record { first = tree_of_set x; second = Some (tree_of_set y) }) (rw (h.0, k.0) refl) (rw (h.1, k.1, e) refl)
+    pub parts_unsorted : (fault : SortFault) → sort_fault (trees_of sets) ≡ Some fault → AreParts s (Err (faults.Sort fault))
+    parts_unsorted fault e = past_parts (Err (faults.Sort fault)) (unsorted (trees_of sets) fault made.trees e)

@@ -14,18 +14,51 @@ use Rattle.expr_grammar.specs.Form.{Form, Forms}
 use Rattle.expr_grammar.specs.Form as forms
 use Rattle.expr_grammar.specs.Nesting.{HasTokens, IsPrintable, IsPrintableForm, height, is_joined}
 use Rattle.expr_tree.specs.Sorts.{depth_of, judge, nodes_of, sort_of_tree, sort_with}
-use Rattle.expr_tree.specs.Tree.{Rule, Listed, Field, Tree, Empty, Spanned, Ruled, Joined, Not, Trees}
-use Rattle.expr_tree.specs.WellFormed.{HasClock, IsWellFormed}
+use Rattle.expr_tree.specs.Tree.{Rule, Listed, Field, Ical, Tree, Empty, Spanned, Ruled, Joined, Not, Trees}
+use Rattle.expr_tree.specs.WellFormed.{AreWellFormed, HasClock, IsWellFormed, IsWellFormedSecond}
 use Rattle.rule_core.specs.declared.field.FieldRule.{FieldRule}
 use Rattle.expr_text.proofs.RulesBack.{are_fields, rule_back, written_fields}
 use Rattle.expr_tree.specs.declared.sorting.Sort.{Sort}
 use Rattle.expr_tree.specs.declared.sorting.SortFault.{SortFault}
 use Rattle.expr_tree.specs.declared.sorting.SortFault.TheVariants as faults
-use Rattle.expr_text.specs.Accepted.{AreWellFormed, IsWellFormedSecond}
+use Rattle.expr_text.specs.Laws.{HasNoRrule, HasNoSecondRrule}
 use Rattle.expr_text.specs.Faults.{fault_of, sort_fault}
 use Rattle.moment_core.specs.Clocks.{is_absolute}
-use Rattle.expr_text.specs.Printing.{is_join}
+use Rattle.expr_print.specs.Printing.{is_join}
 use Rattle.expr_text.specs.Trees.{both, bound_of, clock_of, is_named, listed, stamps_of, tree_from, trees_from}
+
+-- a well-formed tree without a rule of RFC 5545
+abbrev pub IsShown : Tree Rule → Type 0
+IsShown Empty = Unit {0}
+IsShown (Spanned bounds low high) = IsWellFormed (Spanned bounds low high)
+IsShown (Ruled (Listed stamps)) = IsWellFormed (Ruled (Listed stamps))
+IsShown (Ruled (Field rule)) = IsWellFormed (Ruled (Field rule))
+IsShown (Ruled (Ical rule)) = ⊥
+IsShown (Joined op a b) = IsShown a × IsShown b
+IsShown (Not a) = IsShown a
+
+abbrev pub IsShownSecond : Option (Tree Rule) → Type 0
+IsShownSecond None = Unit {0}
+IsShownSecond (Some t) = IsShown t
+
+abbrev pub AreShown : Trees → Type 0
+AreShown p = IsShown p.first × IsShownSecond p.second
+
+shown : (t : Tree Rule) → IsWellFormed t → HasNoRrule t → IsShown t
+shown Empty h none = tt
+shown (Spanned bounds low high) h none = h
+shown (Ruled (Listed stamps)) h none = h
+shown (Ruled (Field rule)) h none = h
+shown (Ruled (Ical rule)) h none = absurd none
+shown (Joined op a b) h none = (shown a h.0 none.0, shown b h.1 none.1)
+shown (Not a) h none = shown a h none
+
+second_shown : (o : Option (Tree Rule)) → IsWellFormedSecond o → HasNoSecondRrule o → IsShownSecond o
+second_shown None h none = tt
+second_shown (Some t) h none = shown t h none
+
+pub all_shown : (p : Trees) → AreWellFormed p → HasNoRrule p.first × HasNoSecondRrule p.second → AreShown p
+all_shown p h none = (shown p.first h.0 none.0, second_shown p.second h.1 none.1)
 
 abbrev pub stamp_at : Moment → Clock → Stamp
 stamp_at t clock = record { moment = t; absolute = is_absolute clock }
@@ -44,6 +77,7 @@ written Empty = forms.Empty
 written (Ruled (Listed stamps)) = forms.Listed (literals_of stamps)
 written (Spanned bounds low high) = forms.Span (written_bound bounds.0 low) (written_bound bounds.1 high)
 written (Ruled (Field rule)) = forms.Rule rule.freq (written_fields rule)
+written (Ruled (Ical rule)) = forms.Empty
 written (Joined op a b) = forms.Joined op (written a) (written b)
 written (Not a) = forms.Inverse (written a)
 
@@ -82,19 +116,20 @@ span_back bounds low high first second low_clock high_clock =
     rw (named_back bounds.0 low, named_back bounds.1 high, bound_back bounds.0 low first, bound_back bounds.1 high second, clock_back bounds.0 low first low_clock, clock_back bounds.1 high second high_clock) refl
 
 -- what is written of a well-formed tree stands for it
-pub tree_back : (t : Tree Rule) → IsWellFormed t → tree_from (written t) ≡ Some t
+pub tree_back : (t : Tree Rule) → IsShown t → tree_from (written t) ≡ Some t
 tree_back Empty h = refl
 tree_back (Ruled (Listed stamps)) h = ap (option_map listed) (stamps_back stamps)
 tree_back (Spanned bounds low high) h = span_back bounds low high h.0.low_given h.0.high_given h.1 h.2
 tree_back (Ruled (Field rule)) h = ap (option_map (λ (r : FieldRule). Ruled (Field r))) (rule_back rule)
+tree_back (Ruled (Ical rule)) h = absurd h
 tree_back (Joined op a b) h = rw (tree_back a h.0, tree_back b h.1) refl
 tree_back (Not a) h = rw (tree_back a h) refl
 
-both_back : (t : Tree Rule) (o : Option (Tree Rule)) → IsWellFormed t → IsWellFormedSecond o → trees_from (record { first = written t; second = option_map written o }) ≡ Some (record { first = t; second = o })
+both_back : (t : Tree Rule) (o : Option (Tree Rule)) → IsShown t → IsShownSecond o → trees_from (record { first = written t; second = option_map written o }) ≡ Some (record { first = t; second = o })
 both_back t None h k = rw (tree_back t h) refl
 both_back t (Some u) h k = rw (tree_back t h, tree_back u k) refl
 
-pub trees_back : (p : Trees) → AreWellFormed p → trees_from (all_written p) ≡ Some p
+pub trees_back : (p : Trees) → AreShown p → trees_from (all_written p) ≡ Some p
 trees_back p h = both_back p.first p.second h.0 h.1
 
 pub joined_same : (t : Tree Rule) → is_joined (written t) ≡ is_join t
@@ -102,6 +137,7 @@ joined_same Empty = refl
 joined_same (Spanned bounds low high) = refl
 joined_same (Ruled (Listed stamps)) = refl
 joined_same (Ruled (Field rule)) = refl
+joined_same (Ruled (Ical rule)) = refl
 joined_same (Joined op a b) = refl
 joined_same (Not a) = refl
 
@@ -111,16 +147,18 @@ height_same Empty = refl
 height_same (Spanned bounds low high) = refl
 height_same (Ruled (Listed stamps)) = refl
 height_same (Ruled (Field rule)) = refl
+height_same (Ruled (Ical rule)) = refl
 height_same (Joined op a b) = rw (height_same a, height_same b) (omega arith)
 height_same (Not a) = rw (height_same a) (omega arith)
 
-has_tokens : (t : Tree Rule) → IsWellFormed t → HasTokens (written t)
+has_tokens : (t : Tree Rule) → IsShown t → HasTokens (written t)
 unfolding HasTokens
 has_tokens Empty h = tt
 has_tokens (Ruled (Listed [])) h = absurd (omega (arith, h.0))
 has_tokens (Ruled (Listed (s ∷ ss))) h = tt
 has_tokens (Spanned bounds low high) h = tt
 has_tokens (Ruled (Field rule)) h = are_fields rule
+has_tokens (Ruled (Ical rule)) h = absurd h
 has_tokens (Joined op a b) h = (has_tokens a h.0, has_tokens b h.1)
 has_tokens (Not a) h = has_tokens a h
 
@@ -136,7 +174,7 @@ sorted_depth t s e =
     let go : (b : Bool) → P b = λ b. elim b as P [ true ↦ λ k. absurd cc | false ↦ λ k. inner (nat_lt 128 (depth_of t)) refl k ] in
     go (nat_lt 1024 (nodes_of t)) e
 
-pub printable : (t : Tree Rule) (s : Sort) → IsWellFormed t → sort_of_tree t ≡ Ok s → IsPrintableForm (written t)
+pub printable : (t : Tree Rule) (s : Sort) → IsShown t → sort_of_tree t ≡ Ok s → IsPrintableForm (written t)
 printable t s h e = (has_tokens t h, rw (height_same t) (sorted_depth t s e))
 
 first_sorted : (r : Result Sort SortFault) (o : Option (Result Sort SortFault)) → fault_of r o ≡ None → (s : Sort) × (r ≡ Ok s)
@@ -148,12 +186,12 @@ second_sorted (Err fault) x e = absurd cc
 second_sorted (Ok s) (Err fault) e = absurd cc
 second_sorted (Ok s) (Ok other) e = (other, refl)
 
-both_printable : (t : Tree Rule) (o : Option (Tree Rule)) → AreWellFormed (record { first = t; second = o }) → sort_fault (record { first = t; second = o }) ≡ None → IsPrintable (all_written (record { first = t; second = o }))
+both_printable : (t : Tree Rule) (o : Option (Tree Rule)) → AreShown (record { first = t; second = o }) → sort_fault (record { first = t; second = o }) ≡ None → IsPrintable (all_written (record { first = t; second = o }))
 both_printable t None h e = let s = first_sorted (sort_of_tree t) None e in (printable t s.0 h.0 s.1, tt)
 both_printable t (Some u) h e =
     let s = first_sorted (sort_of_tree t) (Some (sort_of_tree u)) e in
     let other = second_sorted (sort_of_tree t) (sort_of_tree u) e in
     (printable t s.0 h.0 s.1, printable u other.0 h.1 other.1)
 
-pub all_printable : (p : Trees) → AreWellFormed p → sort_fault p ≡ None → IsPrintable (all_written p)
+pub all_printable : (p : Trees) → AreShown p → sort_fault p ≡ None → IsPrintable (all_written p)
 all_printable p h e = both_printable p.first p.second h e

@@ -5,8 +5,7 @@ use Rattle.expr_tokens.specs.Plain.{Token}
 use Rattle.expr_tokens.specs.Reading.{Found, reading_of}
 use Rattle.expr_grammar.specs.Form.{Forms}
 use Rattle.expr_grammar.specs.Grammar.{Spells}
-use Rattle.expr_tree.specs.Tree.{Rule, Tree, Trees}
-use Rattle.expr_tree.specs.WellFormed.{IsWellFormed}
+use Rattle.expr_tree.specs.Tree.{Trees}
 use Rattle.rule_core.specs.declared.part.RuleFault.{RuleFault}
 use Rattle.expr_tree.specs.declared.sorting.SortFault.{SortFault}
 use Rattle.expr_text.specs.Fault.{Fault}
@@ -42,7 +41,8 @@ abbrev pub spelling : Tokens → Forms → Spelling
 spelling ts p = record { tokens = ts; forms = p }
 
 pub data IsSpelled (ts : Tokens) : Result Spelling Fault → Type 0 where
-  spelled : (p : Forms) → Spells p (kinds_of ts) → IsSpelled ts (Ok (record { tokens = ts; forms = p }))
+  spelled : (p : Forms) → Spells p (kinds_of ts)
+      → IsSpelled ts (Ok (record { tokens = ts; forms = p }))
   unspelled : ((p : Forms) → Spells p (kinds_of ts) → ⊥) → IsSpelled ts (Err faults.Syntax)
 
 -- the spelling, where each literal names a moment
@@ -56,7 +56,8 @@ unless_nameless s = or_nameless s (first_nameless s.tokens)
 -- the expressions, where each span has a position
 pub data HasPositions (s : Spelling) : Result Forms Fault → Type 0 where
   held : AllByRecursion HasPosition (all_spans_of s.forms) → HasPositions s (Ok s.forms)
-  vacant : (byte : ℕ) → FirstVacant (all_spans_of s.forms) (span_places s.tokens) byte → HasPositions s (Err (faults.Moment byte))
+  vacant : (byte : ℕ) → FirstVacant (all_spans_of s.forms) (span_places s.tokens) byte
+      → HasPositions s (Err (faults.Moment byte))
 
 -- the expressions, where each rule is one
 abbrev pub or_rule_fault : Forms → Option RuleFault → Result Forms Fault
@@ -68,8 +69,10 @@ unless_rule_fault p = or_rule_fault p (first_rule_fault p)
 
 -- the trees, where they have a sort
 pub data IsSorted (p : Forms) : Result Trees Fault → Type 0 where
-  sorted : (trees : Trees) → trees_from p ≡ Some trees → sort_fault trees ≡ None → IsSorted p (Ok trees)
-  unsorted : (trees : Trees) (fault : SortFault) → trees_from p ≡ Some trees → sort_fault trees ≡ Some fault
+  sorted : (trees : Trees) → trees_from p ≡ Some trees → sort_fault trees ≡ None
+      → IsSorted p (Ok trees)
+  unsorted : (trees : Trees) (fault : SortFault) → trees_from p ≡ Some trees
+      → sort_fault trees ≡ Some fault
       → IsSorted p (Err (faults.Sort fault))
 
 -- What a text is read as, or its fault: all phases in their order, each over the whole text.
@@ -81,10 +84,3 @@ AreRead = Then (By unless_unbuilt) (Then IsSpelled IsMeant)
 
 abbrev pub IsRead : List ℕ → Result Trees Fault → Type 0
 IsRead = Then (By unless_long) (Then (By tokens_in) AreRead)
-
-abbrev pub IsWellFormedSecond : Option (Tree Rule) → Type 0
-IsWellFormedSecond None = Unit {0}
-IsWellFormedSecond (Some t) = IsWellFormed t
-
-abbrev pub AreWellFormed : Trees → Type 0
-AreWellFormed p = IsWellFormed p.first × IsWellFormedSecond p.second

@@ -1,6 +1,5 @@
 -- Moments that are none, spans without a position, and trees without a sort.
 use Rattle.std.specs.Prelude.{◌≡◌, ℕ, ℤ, Bool, true, false, List, [], ◌∷◌, ◌++◌, map, Option, Some, None, Result, Ok, Err, option_map, if◌then◌else◌}
-use Rattle.std.specs.List.{AllByRecursion}
 use Rattle.moment_core.specs.Clocks.{one_clock}
 use Rattle.moment_core.specs.declared.line.Clock.{Clock}
 use Rattle.span_core.specs.Bounds.{lies_between}
@@ -71,13 +70,9 @@ IsVacant bounds = (p : ℤ) → lies_between bounds.0 bounds.1 p ≡ false
 pub data FirstVacant : List (Bound × Bound) → List ℕ → ℕ → Type 0 where
   here : (s : Bound × Bound) (ss : List (Bound × Bound)) (place : ℕ) (places : List ℕ) → IsVacant s
       → FirstVacant (s ∷ ss) (place ∷ places) place
-  later : (s : Bound × Bound) (ss : List (Bound × Bound)) (place : ℕ) (places : List ℕ) (byte : ℕ) → HasPosition s
+  later : (s : Bound × Bound) (ss : List (Bound × Bound)) (place : ℕ) (places : List ℕ) (byte : ℕ)
+      → HasPosition s
       → FirstVacant ss places byte → FirstVacant (s ∷ ss) (place ∷ places) byte
-
--- what a search for that span answers: none, where each span has a position
-abbrev pub TellsFirstVacant : List (Bound × Bound) → List ℕ → Option ℕ → Type 0
-TellsFirstVacant spans places None = AllByRecursion HasPosition spans
-TellsFirstVacant spans places (Some byte) = FirstVacant spans places byte
 
 -- the fault of the first rule that has one
 abbrev pub rule_fault : Form → Option RuleFault

@@ -1,11 +1,10 @@
 pub mod Calls
 pub mod Rules
-pub mod Fields
 pub mod Trees
 pub mod Fault
 pub mod Faults
 pub mod Accepted
-pub mod Printing
 pub mod Sorted
 pub mod Phases
+pub mod Making
 pub mod Laws

@@ -2,21 +2,17 @@
 use Rattle.std.specs.Prelude.{◌≡◌, ℕ, List, [], ◌∷◌, Option, Some, None, Result, Ok, Err, IfSome, option_map}
 use Rattle.std.specs.List.{AllZip}
 use Rattle.moment_core.specs.Line.{IsCalendarMoment}
-use Rattle.span_core.specs.Bounds.{IsGiven, IsSpan}
+use Rattle.span_core.specs.Bounds.{IsSpan}
 use Rattle.expr_tokens.specs.declared.token.Token.{Token as Placed}
 use Rattle.expr_tokens.specs.declared.token.Token.TheVariants as placed
 use Rattle.expr_tokens.specs.Plain.{Token, plain}
 use Rattle.expr_tokens.specs.Plain as tokens
 use Rattle.expr_grammar.specs.Form.{Form, Forms}
 use Rattle.expr_grammar.specs.Form as forms
-use Rattle.expr_tree.specs.Sorts.{sort_of_tree}
-use Rattle.expr_tree.specs.Tree.{Rule, Tree, Trees}
+use Rattle.expr_tree.specs.Tree.{Trees}
 use Rattle.expr_text.specs.declared.fault.TextFault.{TextFault}
 use Rattle.expr_text.specs.Fault.{Fault, fault_in}
-use Rattle.expr_text.specs.Fault as faults
-use Rattle.expr_text.specs.declared.sorted.SortedSet.{SortedSet}
-use Rattle.expr_text.specs.Sorted.{HasSort, tree_of_set}
-use Rattle.expr_text.specs.Trees.{bound_of, tree_from}
+use Rattle.expr_text.specs.Trees.{bound_of}
 use Rattle.expr_text.specs.Faults.{Tokens}
 
 -- what a reader returned: none where memory ran out
@@ -25,7 +21,8 @@ told view (Ok x) = Some (Ok (view x))
 told view (Err fault) = option_map (λ f. Err f) (fault_in fault)
 
 -- it is such an answer, unless memory ran out
-abbrev pub Tells : {X : Type 0} → (X → Trees) → (Result Trees Fault → Type 0) → Result X TextFault → Type 0
+abbrev pub Tells : {X : Type 0} → (X → Trees) → (Result Trees Fault → Type 0) → Result X TextFault
+    → Type 0
 Tells view Is r = IfSome (told view r) Is
 
 -- where the token carries a place, it is this one
@@ -54,15 +51,6 @@ abbrev pub IsInRange : Token → Type 0
 IsInRange (tokens.Moment (Some s)) = IsCalendarMoment s.moment.0
 IsInRange t = Unit {0}
 
--- the bounds are of the calendar range
-abbrev pub HasGivenBounds : Form → Type 0
-HasGivenBounds forms.Empty = Unit {0}
-HasGivenBounds (forms.Listed literals) = Unit {0}
-HasGivenBounds (forms.Span low high) = IsGiven (bound_of low) × IsGiven (bound_of high)
-HasGivenBounds (forms.Rule freq fields) = Unit {0}
-HasGivenBounds (forms.Joined op a b) = HasGivenBounds a × HasGivenBounds b
-HasGivenBounds (forms.Inverse a) = HasGivenBounds a
-
 -- each span has a position, between bounds of the calendar range
 abbrev pub HasSpans : Form → Type 0
 HasSpans forms.Empty = Unit {0}
@@ -78,13 +66,3 @@ IsSecond Is (Some t) = Is t
 
 abbrev pub AreBoth : (Form → Type 0) → Forms → Type 0
 AreBoth Is p = Is p.first × IsSecond Is p.second
-
--- the expression has no sort, for this reason
-abbrev pub HasSortFault : Form → Fault → Type 0
-HasSortFault t (faults.Sort fault) = (tree : Tree Rule) × (tree_from t ≡ Some tree) × (sort_of_tree tree ≡ Err fault)
-HasSortFault t fault = ⊥
-
--- a set and its sort, or why the expression has none
-abbrev pub GivesSorted : Form → Result SortedSet TextFault → Type 0
-GivesSorted t (Ok s) = (tree_from t ≡ Some (tree_of_set s)) × HasSort s
-GivesSorted t (Err fault) = IfSome (fault_in fault) (HasSortFault t)

@@ -13,7 +13,8 @@ use Rattle.expr_grammar.specs.Form.{FieldForm, Values, Start}
 -- the numbers of a key, none where its field isn't given
 abbrev pub numbers_of : Key → List FieldForm → List ℤ
 numbers_of key [] = []
-numbers_of key (Values other values ∷ fields) = if key_place other == key_place key then values else numbers_of key fields
+numbers_of key (Values other values ∷ fields) =
+    if key_place other == key_place key then values else numbers_of key fields
 numbers_of key (Start stamp ∷ fields) = numbers_of key fields
 
 abbrev pub first_of : List ℤ → Option ℤ

@@ -1,5 +1,5 @@
 -- The tree that an expression stands for.
-use Rattle.std.specs.Prelude.{ℕ, ◌+◌, Bool, true, false, ◌&&◌, List, [], ◌∷◌, Option, Some, None, option_map, if◌then◌else◌}
+use Rattle.std.specs.Prelude.{Bool, true, false, ◌&&◌, List, [], ◌∷◌, Option, Some, None, option_map, if◌then◌else◌}
 use Rattle.moment_core.specs.Clocks.{clock_of_stamp}
 use Rattle.moment_core.specs.declared.line.Clock.{Clock}
 use Rattle.moment_core.specs.declared.line.Clock.TheVariants.{Any}
@@ -76,12 +76,3 @@ trees_with first (Some second) = both (λ t u. with_second t (Some u)) first (tr
 
 abbrev pub trees_from : Forms → Option Trees
 trees_from p = trees_with (tree_from p.first) p.second
-
--- how many nodes the tree of an expression has
-abbrev pub size_of : Form → ℕ
-size_of forms.Empty = 1
-size_of (forms.Listed literals) = 1
-size_of (forms.Span low high) = 1
-size_of (forms.Rule freq fields) = 1
-size_of (forms.Joined op a b) = 1 + size_of a + size_of b
-size_of (forms.Inverse a) = 1 + size_of a

@@ -1,20 +1,55 @@
-ghost use Rattle.std.specs.Prelude.{◌≡◌, IfOk, Option, Some, min};
+ghost use Rattle.std.specs.Prelude.{◌≡◌, ◌∷◌, [], map, IfOk, Option, Some};
 ghost use Rattle.std.specs.List.{filter_map};
+ghost use Rattle.expr_grammar.specs.Form.{Form, Inverse, Joined as JoinedForm, Rule as RuleForm, Span as SpanForm};
 ghost use Rattle.expr_grammar.specs.Made.{IsDated, IsMade};
-ghost use Rattle.expr_grammar.specs.Syntax.{form_of};
-ghost use Rattle.expr_text.specs.Phases.{HasSpans};
-ghost use Rattle.expr_text.specs.Trees.{bound_of, clock_of, size_of, tree_from};
-ghost use Rattle.expr_tree.specs.Tree.{Joined, Spanned, tree_of};
+ghost use Rattle.expr_grammar.specs.Syntax.{all_places_of, field_form, form_of, forms_of, places_of};
+ghost use Rattle.expr_text.specs.Making.{Begins, IsMadeOf, Makes, MakesAll};
+ghost use Rattle.expr_text.specs.Phases.{AreBoth};
+ghost use Rattle.expr_text.specs.Trees.{bound_of, clock_of};
+ghost use Rattle.expr_tree.specs.Tree.{Joined as JoinedTree, tree_of};
 ghost use Rattle.moment_core.specs.declared.line.Stamp.{Stamp as TheStamp};
-ghost use Rattle.span_core.specs.Bounds.{IsSpan};
 
-use crate::finding::bound;
+use crate::fault::TextFault;
 use crate::rules::rule;
-use expr_grammar::{SpanBound, SyntaxTree};
-use expr_tree::{Expr, Stamps};
+use expr_grammar::{Field, SpanBound, SyntaxTree, SyntaxTrees};
+use expr_tree::{Expr, Program, Stamps};
 use moment_core::{Clock, Op, Stamp};
-use span_core::{Empty, Span};
+use rule_core::{Freq, RuleFault};
+use span_core::{Bound, Empty, Span};
 use std::alloc::{AllocError, Global};
+
+/// The set of an expression, or the fault of its first rule that has one.
+type Made = Result<Expr, RuleFault>;
+
+/// A step from an expression to its leftmost part.
+#[derive(Drop)]
+pub(crate) enum Step<'t> {
+    /// To what stands before the operator and the expression behind it.
+    Before(Op, &'t SyntaxTree),
+    /// To what stands behind a `!`.
+    Behind,
+}
+
+/// The bound that is written; one that isn't is infinite.
+fn bound(written: Option<SpanBound>) -> Bound
+    ensures { result ≡ bound_of written }
+{
+    match written {
+        Some(
+            SpanBound {
+                closed: true,
+                stamp: Some(stamp),
+            },
+        ) => Bound::Closed(stamp.moment),
+        Some(
+            SpanBound {
+                closed: false,
+                stamp: Some(stamp),
+            },
+        ) => Bound::Open(stamp.moment),
+        _ => Bound::Inf,
+    }
+}
 
 /// The clock of a bound that is written; one that isn't has any.
 fn clock(written: Option<SpanBound>) -> Clock
@@ -42,8 +77,31 @@ fn stamps(alloc: Global, literals: &[Option<Stamp>]) -> Result<Vec<Stamp>, Alloc
         .collect(alloc)
 }
 
+/// The span between the bounds, or the place of its name where no position lies there.
+fn span(place: usize, low: Option<SpanBound>, high: Option<SpanBound>) -> Result<Made, TextFault>
+    requires { IsMade IsDated (SpanForm low high) }
+    ensures { Makes (SpanForm low high) (place ∷ []) result }
+{
+    match Span::new(bound(low), bound(high)) {
+        Ok(span) => Ok(Ok(Expr::Span(span, clock(low), clock(high)))),
+        Err(Empty) => Err(TextFault::Moment { byte: place }),
+    }
+}
+
+/// The moments of the rule that the fields stand for.
+fn field(alloc: Global, freq: Freq, fields: &[Field]) -> Result<Made, AllocError>
+    requires { IsMade IsDated (RuleForm freq (map field_form fields.now)) }
+    ensures { IfOk result (IsMadeOf (RuleForm freq (map field_form fields.now))) }
+{
+    let rule = rule(alloc, freq, fields)?;
+    match rule.check() {
+        Ok(()) => Ok(Ok(Expr::Field(rule))),
+        Err(fault) => Ok(Err(fault)),
+    }
+}
+
 fn join(alloc: Global, op: Op, a: Expr, b: Expr) -> Result<Expr, AllocError>
-    ensures { IfOk result (λ e. tree_of e ≡ Joined op (tree_of a) (tree_of b)) }
+    ensures { IfOk result (λ e. tree_of e ≡ JoinedTree op (tree_of a) (tree_of b)) }
 {
     let a = Box::new(alloc, a)?;
     let b = Box::new(alloc, b)?;
@@ -54,64 +112,95 @@ fn join(alloc: Global, op: Op, a: Expr, b: Expr) -> Result<Expr, AllocError>
     })
 }
 
-/// The positions between the bounds, of which there are none where no position lies there.
-fn span(low: Option<SpanBound>, high: Option<SpanBound>) -> Expr
-    requires { IsSpan (bound_of low) (bound_of high) }
-    ensures { tree_of result ≡ Spanned (bound_of low, bound_of high) (clock_of low) (clock_of high) }
+/// What the operator joins.
+fn joined(alloc: Global, op: Op, a: Made, b: Made) -> Result<Made, AllocError>
+    ensures { IfOk result (λ made.
+        (t u : Form) → IsMadeOf t a → IsMadeOf u b → IsMadeOf (JoinedForm op t u) made) }
 {
-    match Span::new(bound(low), bound(high)) {
-        Ok(span) => Expr::Span(span, clock(low), clock(high)),
-        Err(Empty) => Expr::Empty,
+    match a {
+        Err(fault) => Ok(Err(fault)),
+        Ok(a) => match b {
+            Err(fault) => Ok(Err(fault)),
+            Ok(b) => Ok(Ok(join(alloc, op, a, b)?)),
+        },
     }
 }
 
-/// The set that an expression stands for, where each literal names a moment and each of its spans holds a position.
-pub fn expr(alloc: Global, tree: &SyntaxTree) -> Result<Expr, AllocError>
-    requires made { IsMade IsDated (form_of tree.now) }
-    requires spans { HasSpans (form_of tree.now) }
-    ensures { IfOk result (λ e. tree_from (form_of tree.now) ≡ Some (tree_of e)) }
+/// What a `!` stands before.
+fn inverse(alloc: Global, a: Made) -> Result<Made, AllocError>
+    ensures { IfOk result (λ made. (t : Form) → IsMadeOf t a → IsMadeOf (Inverse t) made) }
 {
-    match tree {
-        SyntaxTree::Empty => Ok(Expr::Empty),
-        SyntaxTree::List(literals) => Ok(Expr::List(Stamps::of(stamps(alloc, literals)?))),
-        SyntaxTree::Span { low, high, .. } => Ok(span(*low, *high)),
-        SyntaxTree::Rule { freq, fields } => Ok(Expr::Field(rule(alloc, *freq, fields)?)),
-        SyntaxTree::Joined(op, a, b) => {
-            let a = expr(alloc, a)?;
-            let b = expr(alloc, b)?;
-            join(alloc, *op, a, b)
-        }
-        SyntaxTree::Inverse(a) => {
-            let a = expr(alloc, a)?;
-            Ok(Expr::Not(Box::new(alloc, a)?))
-        }
+    match a {
+        Err(fault) => Ok(Err(fault)),
+        Ok(a) => Ok(Ok(Expr::Not(Box::new(alloc, a)?))),
     }
 }
 
-/// How many nodes the set of an expression has; one more than the limit where there are more.
-///
-/// A chain of operators is long on its left side, which a loop goes down.
-pub fn nodes(tree: &SyntaxTree) -> u32
-    ensures { result ≡ min 1025 (size_of (form_of tree.now)) }
+/// The set of the leftmost part of an expression, and the steps to it.
+fn leftmost<'t>(alloc: Global, tree: &'t SyntaxTree) -> Result<(Made, Vec<Step<'t>>), TextFault>
+    requires { IsMade IsDated (form_of tree.now) }
+    ensures { Begins (form_of tree.now) (places_of tree.now) result }
 {
+    let mut steps = Vec::new(alloc);
     let mut left = tree;
-    let mut count: u32 = 0;
     'left: loop {
         match left {
-            SyntaxTree::Empty
-            | SyntaxTree::List(_)
-            | SyntaxTree::Span { .. }
-            | SyntaxTree::Rule { .. } => {
-                return (count + 1).min(1025);
+            SyntaxTree::Empty => return Ok((Ok(Expr::Empty), steps)),
+            SyntaxTree::List(literals) => {
+                return Ok((Ok(Expr::List(Stamps::of(stamps(alloc, literals)?))), steps));
             }
-            SyntaxTree::Joined(_, a, b) => {
-                count = (count + 1 + nodes(b)).min(1025);
+            SyntaxTree::Span { place, low, high } => {
+                return Ok((span(*place, *low, *high)?, steps));
+            }
+            SyntaxTree::Rule { freq, fields } => return Ok((field(alloc, *freq, fields)?, steps)),
+            SyntaxTree::Joined(op, a, b) => {
+                steps.push(Step::Before(*op, b))?;
                 left = a;
             }
             SyntaxTree::Inverse(a) => {
-                count = (count + 1).min(1025);
+                steps.push(Step::Behind)?;
                 left = a;
             }
         }
     }
+}
+
+/// The set of an expression, or the place of its first span that has no position.
+///
+/// A chain of operators is long on its left side, which a loop goes down and up again.
+fn make(alloc: Global, tree: &SyntaxTree) -> Result<Made, TextFault>
+    requires { IsMade IsDated (form_of tree.now) }
+    ensures { Makes (form_of tree.now) (places_of tree.now) result }
+{
+    let (mut made, mut steps) = leftmost(alloc, tree)?;
+    'steps: while let Some(step) = steps.pop() {
+        match step {
+            Step::Before(op, right) => {
+                let right = make(alloc, right)?;
+                made = joined(alloc, op, made, right)?;
+            }
+            Step::Behind => made = inverse(alloc, made)?,
+        }
+    }
+    Ok(made)
+}
+
+/// The sets of one or two expressions, or the first fault: the place of the first span that has no
+/// position, then the fault of the first rule that has one.
+pub fn make_all(alloc: Global, trees: &SyntaxTrees) -> Result<Program, TextFault>
+    requires { AreBoth (IsMade IsDated) (forms_of trees.now) }
+    ensures { MakesAll (forms_of trees.now) (all_places_of trees.now) result }
+{
+    let first = make(alloc, &trees.first)?;
+    let Some(second) = &trees.second else {
+        return Ok(Program {
+            first: first?,
+            second: None,
+        });
+    };
+    let second = make(alloc, second)?;
+    Ok(Program {
+        first: first?,
+        second: Some(second?),
+    })
 }

@@ -1,5 +1,5 @@
 ghost use Rattle.std.specs.Prelude.{◌≡◌};
-ghost use Rattle.expr_text.specs.declared.fault.TextFault.TheVariants.{Memory};
+ghost use Rattle.expr_text.specs.declared.fault.TextFault.TheVariants.{Memory, Rule, Sort};
 
 use expr_tree::SortFault;
 use rule_core::RuleFault;
@@ -9,10 +9,11 @@ use thiserror::Error;
 /// The most bytes that a text may have.
 pub const LONGEST: usize = 65_536;
 
-/// Why a text isn't read as a program. The first cause of this order decides; within a cause, the first place in the text.
+/// Why a text isn't read as a program. The first cause of this order decides; within a cause, the
+/// first place in the text.
 #[derive(Clone, Copy, Debug, PartialEq, Eq, Error)]
 pub enum TextFault {
-    /// The text has more than 65,536 bytes.
+    /// The text has more than `LONGEST` bytes.
     #[error("more than 65,536 bytes")]
     Long,
     /// No token begins at the byte, counted from 0.
@@ -24,8 +25,8 @@ pub enum TextFault {
     /// The tokens spell no program of the grammar.
     #[error("no program of the grammar")]
     Syntax,
-    /// The literal at the byte names no moment of the calendar range; or, if each literal names one,
-    /// no position lies between the bounds of the span whose name begins at the byte.
+    /// The literal at the byte names no moment of the calendar range; or, if each literal names
+    /// one, no position lies between the bounds of the span whose name begins at the byte.
     #[error("no moment, or no position of a span, at byte {byte}")]
     Moment { byte: usize },
     /// The first rule of the text that is none, by its fault.
@@ -52,5 +53,21 @@ impl<T: Drop> From<AllocFailed<T>> for TextFault {
 
     fn from(_e: AllocFailed<T>) -> TextFault {
         TextFault::Memory
+    }
+}
+
+impl From<RuleFault> for TextFault {
+    ghost from_gives = { λ fault e. e ≡ Rule fault };
+
+    fn from(fault: RuleFault) -> TextFault {
+        TextFault::Rule(fault)
+    }
+}
+
+impl From<SortFault> for TextFault {
+    ghost from_gives = { λ fault e. e ≡ Sort fault };
+
+    fn from(fault: SortFault) -> TextFault {
+        TextFault::Sort(fault)
     }
 }

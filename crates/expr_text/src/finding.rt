@@ -1,15 +1,9 @@
-ghost use Rattle.std.specs.Prelude.{◌≡◌, ◌∷◌, ◌&&◌, [], true, false};
+ghost use Rattle.std.specs.Prelude.{◌≡◌, ◌&&◌};
 ghost use Rattle.expr_tokens.specs.Plain.{plain, plains};
-ghost use Rattle.expr_grammar.specs.Syntax.{all_places_of, form_of, forms_of, places_of};
-ghost use Rattle.span_core.specs.Bounds.{IsGiven};
 ghost use Rattle.expr_text.specs.Calls.{calls_unbuilt, is_bracket, is_unbuilt, names_unbuilt};
-ghost use Rattle.expr_text.specs.Phases.{first_nameless, AreBoth, HasGivenBounds};
-ghost use Rattle.expr_text.specs.Trees.{bound_of};
-ghost use Rattle.expr_text.specs.Faults.{all_spans_of, spans_of, IsVacant, HasPosition, TellsFirstVacant};
+ghost use Rattle.expr_text.specs.Phases.{first_nameless};
 
-use expr_grammar::{SpanBound, SyntaxTree, SyntaxTrees};
 use expr_tokens::{Token, Word};
-use span_core::{Bound, Span};
 
 /// Whether the word is the name of a call that isn't built.
 fn is_unbuilt(word: Word) -> bool
@@ -70,82 +64,4 @@ pub fn first_nameless<'t, 'a>(tokens: &'t [Token<'a>]) -> Option<usize>
         }
     }
     None
-}
-
-/// The bound that is written; one that isn't is infinite.
-pub fn bound(written: Option<SpanBound>) -> Bound
-    ensures { result ≡ bound_of written }
-{
-    match written {
-        Some(
-            SpanBound {
-                closed: true,
-                stamp: Some(stamp),
-            },
-        ) => Bound::Closed(stamp.moment),
-        Some(
-            SpanBound {
-                closed: false,
-                stamp: Some(stamp),
-            },
-        ) => Bound::Open(stamp.moment),
-        _ => Bound::Inf,
-    }
-}
-
-/// Whether no position lies between the bounds.
-fn is_vacant(low: Bound, high: Bound) -> bool
-    requires low { IsGiven low }
-    requires high { IsGiven high }
-    ensures vacant { result ≡ true → IsVacant (low, high) }
-    ensures held { result ≡ false → HasPosition (low, high) }
-{
-    Span::new(low, high).is_err()
-}
-
-/// The place, where no position lies between the bounds.
-fn vacant(place: usize, low: Option<SpanBound>, high: Option<SpanBound>) -> Option<usize>
-    requires low { IsGiven (bound_of low) }
-    requires high { IsGiven (bound_of high) }
-    ensures { TellsFirstVacant ((bound_of low, bound_of high) ∷ []) (place ∷ []) result }
-{
-    if is_vacant(bound(low), bound(high)) {
-        Some(place)
-    } else {
-        None
-    }
-}
-
-/// The place of the first span between whose bounds no position lies.
-///
-/// A chain of operators is long on its left side, which a loop goes down.
-pub fn first_vacant(tree: &SyntaxTree) -> Option<usize>
-    requires { HasGivenBounds (form_of tree.now) }
-    ensures { TellsFirstVacant (spans_of (form_of tree.now)) (places_of tree.now) result }
-{
-    let mut left = tree;
-    let mut found = None;
-    'left: loop {
-        match left {
-            SyntaxTree::Empty | SyntaxTree::List(_) | SyntaxTree::Rule { .. } => return found,
-            SyntaxTree::Span { place, low, high } => return vacant(*place, *low, *high).or(found),
-            SyntaxTree::Joined(_, a, b) => {
-                found = first_vacant(b).or(found);
-                left = a;
-            }
-            SyntaxTree::Inverse(a) => left = a,
-        }
-    }
-}
-
-/// The same over both expressions.
-pub fn first_vacant_of(trees: &SyntaxTrees) -> Option<usize>
-    requires { AreBoth HasGivenBounds (forms_of trees.now) }
-    ensures { TellsFirstVacant (all_spans_of (forms_of trees.now)) (all_places_of trees.now) result }
-{
-    let first = first_vacant(&trees.first);
-    match &trees.second {
-        Some(second) => first.or(first_vacant(second)),
-        None => first,
-    }
 }

@@ -7,8 +7,8 @@ use span_core::bound_laws;
 
 /// The laws of reading texts: a call has no effect, and a proof cites its clauses.
 ///
-/// Each text is read as trees or has a fault, and not both. What is accepted is well formed and has a sort, and its
-/// printed form is read as the same trees, where it isn't too long.
+/// Each text is read as trees or has a fault, and not both. What is accepted is well formed and has
+/// a sort, and its printed form is read as the same trees, where it isn't too long.
 pub fn reading_laws()
     ensures exist { ReadingsExist }
     ensures unique { ReadingsAreUnique }

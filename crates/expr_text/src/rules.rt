@@ -2,15 +2,13 @@ ghost use Rattle.std.specs.Prelude.{◌≡◌, ◌∷◌, map, List, Some, IfNon
 ghost use Rattle.std.specs.List.{AllByRecursion};
 ghost use Rattle.expr_grammar.specs.Fields.{key_place};
 ghost use Rattle.expr_grammar.specs.Form.{FieldForm};
-ghost use Rattle.expr_grammar.specs.Made.{FieldHas, IsDated, IsMade};
-ghost use Rattle.expr_grammar.specs.Syntax.{field_form, form_of, forms_of};
-ghost use Rattle.expr_text.specs.Faults.{first_rule_fault, rule_fault};
-ghost use Rattle.expr_text.specs.Phases.{AreBoth};
-ghost use Rattle.expr_text.specs.Rules.{fault_where_rule, first_of, literal_in, numbers_of, rule_from, start_from};
+ghost use Rattle.expr_grammar.specs.Made.{FieldHas, IsDated};
+ghost use Rattle.expr_grammar.specs.Syntax.{field_form};
+ghost use Rattle.expr_text.specs.Rules.{first_of, literal_in, numbers_of, rule_from, start_from};
 
-use expr_grammar::{Field, Key, SyntaxTree, SyntaxTrees};
+use expr_grammar::{Field, Key};
 use moment_core::Stamp;
-use rule_core::{FieldRule, Freq, RuleFault, Signed};
+use rule_core::{FieldRule, Freq, Signed};
 use std::alloc::{AllocError, Global};
 
 /// The place of the key in the printed order.
@@ -115,57 +113,4 @@ pub(crate) fn rule(alloc: Global, freq: Freq, fields: &[Field]) -> Result<FieldR
         start: start(fields),
         week_start: first_number(fields, Key::WeekStart),
     })
-}
-
-/// Why the fields stand for no rule.
-fn fault_of(alloc: Global, freq: Freq, fields: &[Field]) -> Result<Option<RuleFault>, AllocError>
-    requires { AllByRecursion (FieldHas IsDated) (map field_form fields.now) }
-    ensures { IfOk result (λ fault.
-        fault ≡ fault_where_rule (rule_from freq (map field_form fields.now))) }
-{
-    let rule = rule(alloc, freq, fields)?;
-    Ok(match rule.check() {
-        Ok(()) => None,
-        Err(fault) => Some(fault),
-    })
-}
-
-/// The fault of the first rule that has one.
-///
-/// A chain of operators is long on its left side, which a loop goes down.
-pub(crate) fn rule_fault(alloc: Global, tree: &SyntaxTree) -> Result<Option<RuleFault>, AllocError>
-    requires { IsMade IsDated (form_of tree.now) }
-    ensures { IfOk result (λ fault. fault ≡ rule_fault (form_of tree.now)) }
-{
-    let mut left = tree;
-    let mut found = None;
-    'left: loop {
-        match left {
-            SyntaxTree::Empty | SyntaxTree::List(_) | SyntaxTree::Span { .. } => return Ok(found),
-            SyntaxTree::Rule { freq, fields } => {
-                let first = fault_of(alloc, *freq, fields)?;
-                return Ok(first.or(found));
-            }
-            SyntaxTree::Joined(_, a, b) => {
-                found = rule_fault(alloc, b)?.or(found);
-                left = a;
-            }
-            SyntaxTree::Inverse(a) => left = a,
-        }
-    }
-}
-
-/// The same over both expressions.
-pub(crate) fn first_rule_fault(
-    alloc: Global,
-    trees: &SyntaxTrees,
-) -> Result<Option<RuleFault>, AllocError>
-    requires { AreBoth (IsMade IsDated) (forms_of trees.now) }
-    ensures { IfOk result (λ fault. fault ≡ first_rule_fault (forms_of trees.now)) }
-{
-    let first = rule_fault(alloc, &trees.first)?;
-    match &trees.second {
-        Some(second) => Ok(first.or(rule_fault(alloc, second)?)),
-        None => Ok(first),
-    }
 }

@@ -1,19 +1,36 @@
 use crate::*;
-use expr_tree::{Expr, SortFault};
+use expr_print::write_program;
+use expr_tree::SortFault;
 use rule_core::{Part, RuleFault};
+use std::alloc::{AllocError, Global};
+use std::process::Abort;
 use std::test::Fail;
 use stored_pair::Book;
 
 /// The printed form of what the text is read as.
-fn shown(rt: &HostRuntime, text: &str) -> Result<Vec<u8>, TextFault> {
-    let book = Book::empty(rt.alloc());
-    let program = read_program(rt.alloc(), text.as_bytes(), &book)?;
-    Ok(write_program(rt.alloc(), &program)?)
+fn shown(alloc: Global, text: &str) -> Result<Vec<u8>, TextFault> {
+    let book = Book::empty(alloc);
+    let program = read_program(alloc, text.as_bytes(), &book)?;
+    Ok(write_program(alloc, &program)?)
+}
+
+/// The text is printed in this form.
+fn is_printed(rt: &impl Abort, alloc: Global, text: &str, printed: &str) {
+    let found = shown(alloc, text);
+    assert!(rt;
+        found.is_ok_and(|form| form.as_slice() == printed.as_bytes()),
+        "{text}"
+    );
+}
+
+/// The text is refused by this fault, or read where there is none.
+fn is_refused(rt: &impl Abort, alloc: Global, text: &str, fault: Option<TextFault>) {
+    assert_eq!(rt; shown(alloc, text).err(), fault, "{text}");
 }
 
 #[test]
-fn texts_are_printed_in_one_form(rt: HostRuntime) -> Result<(), Fail> {
-    for (text, printed) in [
+fn texts_are_printed_in_one_form(rt: HostRuntime) {
+    const ROWS: &[(&str, &str)] = &[
         (
             "!(empty( )|{2024-01-01T00:00:00})",
             "!(empty() | {2024-01-01T00:00:00})",
@@ -42,19 +59,15 @@ fn texts_are_printed_in_one_form(rt: HostRuntime) -> Result<(), Fail> {
             "span(after 2024-01-01T00:00:00Z)|span(end 2024-01-01T00:00:00Z)",
             "span(after 2024-01-01T00:00:00Z) | span(end 2024-01-01T00:00:00Z)",
         ),
-    ] {
-        let found = shown(&rt, text);
-        assert!(rt;
-            found.is_ok_and(|form| form.as_slice() == printed.as_bytes()),
-            "{text}"
-        );
+    ];
+    for (text, printed) in ROWS {
+        is_printed(&rt, rt.alloc(), text, printed);
     }
-    Ok(())
 }
 
 #[test]
 fn texts_are_refused_by_the_first_fault(rt: HostRuntime) {
-    for (text, fault) in [
+    const ROWS: &[(&str, TextFault)] = &[
         ("", TextFault::Syntax),
         ("empty() @", TextFault::Token { byte: 8 }),
         ("daily( ) @", TextFault::Token { byte: 9 }),
@@ -80,14 +93,15 @@ fn texts_are_refused_by_the_first_fault(rt: HostRuntime) {
             "{2024-01-01T00:00:00} ; {2024-01-01T00:00:00Z}",
             TextFault::Sort(SortFault::Clock),
         ),
-    ] {
-        assert_eq!(rt; shown(&rt, text).err(), Some(fault), "{text}");
+    ];
+    for (text, fault) in ROWS {
+        is_refused(&rt, rt.alloc(), text, Some(*fault));
     }
 }
 
 #[test]
-fn rules_are_printed_with_their_fields_in_order(rt: HostRuntime) -> Result<(), Fail> {
-    for (text, printed) in [
+fn rules_are_printed_with_their_fields_in_order(rt: HostRuntime) {
+    const ROWS: &[(&str, &str)] = &[
         ("daily( )", "daily()"),
         (
             "weekly(days=-1 interval=2 start=2024-01-01T00:00:00)",
@@ -102,19 +116,15 @@ fn rules_are_printed_with_their_fields_in_order(rt: HostRuntime) -> Result<(), F
             "yearly(months=12)-!hourly(minutes=00) ; secondly()",
             "yearly(months=12) - !hourly(minutes=0) ; secondly()",
         ),
-    ] {
-        let found = shown(&rt, text);
-        assert!(rt;
-            found.is_ok_and(|form| form.as_slice() == printed.as_bytes()),
-            "{text}"
-        );
+    ];
+    for (text, printed) in ROWS {
+        is_printed(&rt, rt.alloc(), text, printed);
     }
-    Ok(())
 }
 
 #[test]
 fn rules_are_refused_by_the_first_fault(rt: HostRuntime) {
-    for (text, fault) in [
+    const ROWS: &[(&str, TextFault)] = &[
         ("monthly(days=1 hours=2 days=2)", TextFault::Syntax),
         ("daily(interval=1,2)", TextFault::Syntax),
         ("daily(hours=1, minutes=2)", TextFault::Syntax),
@@ -155,83 +165,95 @@ fn rules_are_refused_by_the_first_fault(rt: HostRuntime) {
             "{2024-01-01T00:00:00} | {2024-01-01T00:00:00Z} | daily(interval=0)",
             TextFault::Rule(RuleFault::BadInterval),
         ),
-    ] {
-        assert_eq!(rt; shown(&rt, text).err(), Some(fault), "{text}");
+    ];
+    for (text, fault) in ROWS {
+        is_refused(&rt, rt.alloc(), text, Some(*fault));
     }
+}
+
+/// The text so many times.
+fn repeated(alloc: Global, piece: &str, times: u32) -> Result<String, AllocError> {
+    let mut text = String::new(alloc);
+    for _ in 0..times {
+        text.push_str(piece)?;
+    }
+    Ok(text)
+}
+
+/// A span between so many signs and so many that close them.
+fn nested(alloc: Global, depth: u32, sign: &str, close: &str) -> Result<String, AllocError> {
+    let mut text = repeated(alloc, sign, depth)?;
+    text.push_str("span()")?;
+    for _ in 0..depth {
+        text.push_str(close)?;
+    }
+    Ok(text)
 }
 
 #[test]
 fn brackets_and_signs_nest_128_deep(rt: HostRuntime) -> Result<(), Fail> {
-    for (depth, sign, close, wanted) in [
+    const ROWS: &[(u32, &str, &str, Option<TextFault>)] = &[
         (128, "(", ")", None),
         (129, "(", ")", Some(TextFault::Syntax)),
         (127, "!", "", None),
         (128, "!", "", Some(TextFault::Sort(SortFault::Depth))),
         (129, "!", "", Some(TextFault::Syntax)),
-    ] {
-        let mut text = String::new(rt.alloc());
-        for _ in 0..depth {
-            text.push_str(sign)?;
-        }
-        text.push_str("span()")?;
-        for _ in 0..depth {
-            text.push_str(close)?;
-        }
-        assert_eq!(rt; shown(&rt, text.as_str()).err(), wanted);
+    ];
+    for (depth, sign, close, fault) in ROWS {
+        let text = nested(rt.alloc(), *depth, sign, close)?;
+        is_refused(&rt, rt.alloc(), text.as_str(), *fault);
     }
     Ok(())
 }
 
-// The numbers are python3's, from the text by a pattern of moment literals.
+const IN_BRACKETS: &str =
+    "!(empty( )|{2024-01-01T00:00:00, 2024-01-02T00:00:00Z}-span(start 2024-01-01T00:00:00,end 2024-01-02T00:00:00)&span(after 2024-01-01T00:00:00)&span(before 2024-01-02T00:00:00)&span())";
+
+/// The `T` of each moment of the program in brackets, at which no token begins, and the end without which it is no moment.
+/// The numbers are python3's, from the text by a pattern of moments.
+const MOMENTS: &[(usize, usize)] = &[
+    (22, 31),
+    (43, 52),
+    (76, 85),
+    (100, 109),
+    (132, 141),
+    (165, 174),
+];
+
+/// Why the first so many bytes of the program in brackets are no program.
+fn fault_of_beginning(length: usize) -> TextFault {
+    for (t, end) in MOMENTS {
+        if *t < length && length < *end {
+            return TextFault::Token { byte: *t };
+        }
+    }
+    TextFault::Syntax
+}
+
 #[test]
 fn no_beginning_of_a_program_in_brackets_is_a_program(rt: HostRuntime) {
-    let text =
-        "!(empty( )|{2024-01-01T00:00:00, 2024-01-02T00:00:00Z}-span(start 2024-01-01T00:00:00,end 2024-01-02T00:00:00)&span(after 2024-01-01T00:00:00)&span(before 2024-01-02T00:00:00)&span())";
-    // the `T` of each literal, at which no token begins, and the end without which it is none
-    let literals = [
-        (22, 31),
-        (43, 52),
-        (76, 85),
-        (100, 109),
-        (132, 141),
-        (165, 174),
-    ];
     let book = Book::empty(rt.alloc());
     for length in 0..183 {
-        let Some(front) = text.as_bytes().get(..length) else {
+        let Some(front) = IN_BRACKETS.as_bytes().get(..length) else {
             panic!(rt; "the text has 183 bytes");
         };
-        let cut = literals
-            .iter()
-            .find(|(t, end)| *t < length && length < *end);
-        let fault = match cut {
-            Some((byte, _)) => TextFault::Token { byte: *byte },
-            None => TextFault::Syntax,
-        };
-        assert_eq!(rt; read_program(rt.alloc(), front, &book).err(), Some(fault));
+        let found = read_program(rt.alloc(), front, &book).err();
+        assert_eq!(rt; found, Some(fault_of_beginning(length)));
     }
 }
 
 #[test]
 fn too_long_and_too_large_texts_are_refused(rt: HostRuntime) -> Result<(), Fail> {
-    let mut text = String::new(rt.alloc());
-    for _ in 0..9362 {
-        text.push_str("span()|")?;
-    }
-    assert_eq!(rt; shown(&rt, text.as_str()).err(), Some(TextFault::Syntax));
+    let mut text = repeated(rt.alloc(), "span()|", 9362)?;
+    is_refused(&rt, rt.alloc(), text.as_str(), Some(TextFault::Syntax));
     text.pop();
-    assert_eq!(rt;
-        shown(&rt, text.as_str()).err(),
-        Some(TextFault::Sort(SortFault::Nodes))
+    is_refused(
+        &rt,
+        rt.alloc(),
+        text.as_str(),
+        Some(TextFault::Sort(SortFault::Nodes)),
     );
     text.push_str("    ")?;
-    assert_eq!(rt; shown(&rt, text.as_str()).err(), Some(TextFault::Long));
-    Ok(())
-}
-
-#[test]
-fn a_set_is_printed(rt: HostRuntime) -> Result<(), Fail> {
-    let printed = write_expr(rt.alloc(), &Expr::Empty)?;
-    assert_eq!(rt; printed.as_slice(), "empty()".as_bytes());
+    is_refused(&rt, rt.alloc(), text.as_str(), Some(TextFault::Long));
     Ok(())
 }

@@ -13,7 +13,7 @@ use Rattle.expr_tokens.specs.Plain.{Token}
 use Rattle.expr_tokens.specs.Plain as tokens
 use Rattle.expr_tokens.specs.Class.{holds, front_of, behind, passes_first}
 use Rattle.expr_tokens.specs.Names.{word_of}
-use Rattle.expr_tokens.specs.Reading.{begins_digit, begins_number, digits_of, value_from, signed, named, number_at, name_at, quote_at, text_at, sign_of, signed_at, figures_at, token_at}
+use Rattle.expr_tokens.specs.Reading.{begins_digit, begins_number, digits_of, value_from, signed, named, number_at, name_at, quote_at, text_at, sign_of, signed_at, figures_at, string_limit, token_at}
 use Rattle.expr_tokens.specs.Stamps.{stamp_of}
 use Rattle.expr_tokens.specs.Laws.{goes_on}
 use Rattle.expr_tokens.specs.Longest.{AreDigits}
@@ -107,11 +107,11 @@ name_read b more rest letter each stop =
 
 -- strings
 
-pub text_read : (quoted rest : List ℕ) → list_all (holds classes.Quoted) quoted ≡ true → length quoted ≤ 1024 → Reads (34 ∷ quoted ++ 34 ∷ []) (tokens.Text quoted) rest
+pub text_read : (quoted rest : List ℕ) → list_all (holds classes.Quoted) quoted ≡ true → length quoted ≤ string_limit → Reads (34 ∷ quoted ++ 34 ∷ []) (tokens.Text quoted) rest
 unfolding token_at text_at quote_at
 text_read quoted rest each short =
     let run = run_and_rest (holds classes.Quoted) quoted (34 ∷ rest) each refl in
-    let fits : nat_le (length quoted) 1024 ≡ true = le-leb (length quoted) 1024 short in
+    let fits : nat_le (length quoted) string_limit ≡ true = le-leb (length quoted) string_limit short in
     let read : text_at (quoted ++ 34 ∷ rest) ≡ Some (tokens.Text quoted, rest) = rw (run.0, run.1, fits) refl in
     record { first = 34; others = quoted ++ 34 ∷ []; splits = refl; no_blank = refl; read = rw append_assoc read }
 

@@ -12,7 +12,7 @@ use Rattle.expr_tokens.specs.declared.class.Class.TheVariants as classes
 use Rattle.expr_tokens.specs.Plain.{Token}
 use Rattle.expr_tokens.specs.Plain as tokens
 use Rattle.expr_tokens.specs.Class.{holds, front_of, behind}
-use Rattle.expr_tokens.specs.Reading.{Front, begins_digit, begins_number, digits_of, number_at, name_at, quote_at, text_at, sign_of, with_rest, signed_at, figures_at, token_at}
+use Rattle.expr_tokens.specs.Reading.{Front, begins_digit, begins_number, digits_of, number_at, name_at, quote_at, text_at, sign_of, with_rest, signed_at, figures_at, string_limit, token_at}
 use Rattle.expr_tokens.specs.Longest.{AreDigits, Spells, moment, number, negative, name, text, sign, begins_long_number, IsLongestReading, ReadsLongest, SpellsOne}
 use Rattle.expr_tokens.proofs.Runs.{run_splits, run_is_longer}
 use Rattle.expr_tokens.proofs.Stamps.{moment_there}
@@ -279,7 +279,7 @@ module _ (forms : ShapedTextsHaveForms) (fronts : FrontsAreLongest) (shapes_end 
         short = not_long b bytes byte.minus byte.digit;
       }
 
-  quote_spelled : (quoted after : List ℕ) → list_all (holds classes.Quoted) quoted ≡ true → length quoted ≤ 1024 → AreSpelled 34 (quoted ++ after) (quote_at quoted after)
+  quote_spelled : (quoted after : List ℕ) → list_all (holds classes.Quoted) quoted ≡ true → length quoted ≤ string_limit → AreSpelled 34 (quoted ++ after) (quote_at quoted after)
   unfolding quote_at
   quote_spelled quoted [] each short = tt
   quote_spelled quoted (c ∷ after) each short = elim (cases_Bool (c == 34)) [
@@ -296,8 +296,8 @@ module _ (forms : ShapedTextsHaveForms) (fronts : FrontsAreLongest) (shapes_end 
   unfolding text_at
   text_spelled bytes =
       let splits = run_splits (holds classes.Quoted) bytes in
-      elim (cases_Bool (nat_le (length (front_of (holds classes.Quoted) bytes)) 1024)) [
-        | inl fits ↦ rw fits (rw (← splits.0) at (quote_spelled (front_of (holds classes.Quoted) bytes) (behind (holds classes.Quoted) bytes) splits.1 (leb-true _ 1024 fits)))
+      elim (cases_Bool (nat_le (length (front_of (holds classes.Quoted) bytes)) string_limit)) [
+        | inl fits ↦ rw fits (rw (← splits.0) at (quote_spelled (front_of (holds classes.Quoted) bytes) (behind (holds classes.Quoted) bytes) splits.1 (leb-true _ string_limit fits)))
         | inr long ↦ rw long tt
       ]
 

@@ -3,7 +3,8 @@ use Rattle.std.specs.Prelude.{◌≡◌, ℕ, ◌≤◌, Bool, true, false, not,
 use Rattle.expr_tokens.specs.declared.class.Class.{Class}
 use Rattle.expr_tokens.specs.declared.class.Class.TheVariants.{Letter, Digit, Name, Quoted, Blank}
 
--- a to z; 0 to 9; what a name may go on with; what may stand between quotes; space, tab, line feed and carriage return
+-- a to z; 0 to 9; what a name may go on with; what may stand between quotes; space, tab, line feed
+-- and carriage return
 abbrev pub holds : Class → ℕ → Bool
 holds Letter b = nat_le 97 b && nat_le b 122
 holds Digit b = nat_le 48 b && nat_le b 57
@@ -27,4 +28,5 @@ passes_first p (b ∷ bytes) = p b
 
 -- the rest is shorter than the bytes, where the first one passes
 abbrev pub GoesPast : Class → List ℕ → List ℕ → Type 0
-GoesPast class bytes rest = passes_first (holds class) bytes ≡ true → length rest ≤ length (drop 1 bytes)
+GoesPast class bytes rest =
+    passes_first (holds class) bytes ≡ true → length rest ≤ length (drop 1 bytes)

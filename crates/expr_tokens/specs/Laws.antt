@@ -21,7 +21,8 @@ before ts (Err left) = Err left
 -- The bytes are read as these tokens, and then the rest is read.
 pub record Lexes (bytes : List ℕ) (ts : List Token) (rest : List ℕ) : Type 0 where
   pub reads : (n : ℕ) → length (bytes ++ rest) ≤ n
-      → (m : ℕ) × (length rest ≤ m) × (alone (reading_from n (bytes ++ rest)) ≡ before ts (alone (reading_from m rest)))
+      → (m : ℕ) × (length rest ≤ m)
+      × (alone (reading_from n (bytes ++ rest)) ≡ before ts (alone (reading_from m rest)))
 
 abbrev pub NothingIsRead : Type 0
 NothingIsRead = (rest : List ℕ) → Lexes [] [] rest
@@ -41,7 +42,8 @@ SpacesAreRead = (rest : List ℕ) → Lexes (32 ∷ []) [] rest
 -- a sign of its own: behind a minus no digit may stand
 abbrev pub SignsAreRead : Type 0
 SignsAreRead =
-    (b : ℕ) (t : Token) (rest : List ℕ) → sign_of b ≡ Some t → (b == 45 && begins_digit rest) ≡ false
+    (b : ℕ) (t : Token) (rest : List ℕ) → sign_of b ≡ Some t
+    → (b == 45 && begins_digit rest) ≡ false
     → Lexes (b ∷ []) (t ∷ []) rest
 
 -- the name of a word, with no byte of a name behind it

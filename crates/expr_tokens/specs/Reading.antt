@@ -40,7 +40,10 @@ signed true n = pos 0 -ℤ pos n
 unfoldable pub number_at : Bool → List ℕ → Front
 number_at minus bytes =
     if nat_le (length (digits_of bytes)) 13
-    then Some (tokens.Number (signed minus (value_from 0 (digits_of bytes))), behind (holds classes.Digit) bytes)
+    then Some (
+      tokens.Number (signed minus (value_from 0 (digits_of bytes))),
+      behind (holds classes.Digit) bytes,
+    )
     else None
 
 -- a name of the grammar, or another one
@@ -51,17 +54,24 @@ named name (Some w) = tokens.Word w
 -- all the bytes of a name
 unfoldable pub name_at : List ℕ → Front
 name_at bytes =
-    Some (named (front_of (holds classes.Name) bytes) (word_of (front_of (holds classes.Name) bytes)), behind (holds classes.Name) bytes)
+    Some (
+      named (front_of (holds classes.Name) bytes) (word_of (front_of (holds classes.Name) bytes)),
+      behind (holds classes.Name) bytes,
+    )
 
 -- the bytes, and a quote
 unfoldable pub quote_at : List ℕ → List ℕ → Front
 quote_at quoted [] = None
 quote_at quoted (b ∷ bytes) = if b == 34 then Some (tokens.Text quoted, bytes) else None
 
--- behind a quote: at most 1,024 bytes, and a quote
+-- the most bytes between the quotes of a string
+abbrev pub string_limit : ℕ
+string_limit = 1024
+
+-- behind a quote: not too many bytes, and a quote
 unfoldable pub text_at : List ℕ → Front
 text_at bytes =
-    if nat_le (length (front_of (holds classes.Quoted) bytes)) 1024
+    if nat_le (length (front_of (holds classes.Quoted) bytes)) string_limit
     then quote_at (front_of (holds classes.Quoted) bytes) (behind (holds classes.Quoted) bytes)
     else None
 
@@ -101,7 +111,10 @@ signed_at (b ∷ bytes) = if b == 45 then number_at true bytes else number_at fa
 unfoldable pub figures_at : List ℕ → Front
 figures_at bytes =
     if nat_lt 0 (shaped_front bytes)
-    then Some (tokens.Moment (stamp_of (take (shaped_front bytes) bytes)), drop (shaped_front bytes) bytes)
+    then Some (
+      tokens.Moment (stamp_of (take (shaped_front bytes) bytes)),
+      drop (shaped_front bytes) bytes,
+    )
     else signed_at bytes
 
 -- what begins with the byte b
@@ -112,7 +125,8 @@ token_at b bytes =
     else if begins_number b bytes then figures_at (b ∷ bytes)
     else sign_at b bytes
 
--- tokens, each with how many bytes are left at its first one; or how many are left where no token begins
+-- tokens, each with how many bytes are left at its first one; or how many are left where no token
+-- begins
 abbrev pub Found : Type 0
 Found = Result (List (Token × ℕ)) ℕ
 
@@ -133,8 +147,8 @@ reading_from (suc n) (b ∷ bytes) =
     if holds classes.Blank b then reading_from n bytes
     else and_then (suc (length bytes)) (token_at b bytes) (reading_from n)
 
--- The tokens of a text, each with how many bytes are left at its first one. A fault is told by how many bytes are left
--- where no token begins.
+-- The tokens of a text, each with how many bytes are left at its first one. A fault is told by how
+-- many bytes are left where no token begins.
 unfoldable pub reading_of : List ℕ → Found
 reading_of text = reading_from (length text) text
 
@@ -166,7 +180,8 @@ pub record AreFound (text : List ℕ) (ts : List Placed) : Type 0 where
 abbrev pub IsReading : List ℕ → Result (Vec Placed) TokenFault → Type 0
 IsReading text (Ok v) = AreFound text v.items
 IsReading text (Err faults.Memory) = Unit {0}
-IsReading text (Err (faults.Token byte)) = (left : ℕ) × (reading_of text ≡ Err left) × (byte + left ≡ length text)
+IsReading text (Err (faults.Token byte)) =
+    (left : ℕ) × (reading_of text ≡ Err left) × (byte + left ≡ length text)
 
 -- what a function found at the front, with the bytes behind it
 abbrev pub GivesFront : Option (Placed × Bor (List ℕ)) → Front → Type 0

@@ -8,7 +8,8 @@ use std::alloc::{AllocError, AllocFailed};
 /// Why a text isn't read as tokens.
 #[derive(Clone, Copy, Debug, PartialEq, Eq)]
 pub enum TokenFault {
-    /// No token begins at this byte, counted from 0, or the string or number that does is too long or not closed.
+    /// No token begins at this byte, counted from 0, or the string or number that does is too long
+    /// or not closed.
     Token { byte: usize },
     /// Memory ran out.
     Memory,

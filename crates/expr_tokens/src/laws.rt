@@ -3,8 +3,8 @@ ghost use Rattle.expr_tokens.specs.Longest.{ReadsLongest, SpellsOne};
 
 use moment_text::literal_laws;
 
-/// The laws of tokens: a call has no effect, and a proof cites its clauses. What is read at the front is the longest token
-/// there, and no bytes spell two tokens.
+/// The laws of tokens: a call has no effect, and a proof cites its clauses. What is read at the
+/// front is the longest token there, and no bytes spell two tokens.
 pub fn token_laws()
     ensures longest { ReadsLongest }
     ensures one { SpellsOne }

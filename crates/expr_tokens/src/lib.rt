@@ -10,7 +10,7 @@ mod token;
 
 pub use fault::TokenFault;
 pub use laws::{token_laws, writing_laws};
-pub use reading::tokens;
+pub use reading::{STRING_LIMIT, tokens};
 pub use token::{Token, Word};
 
 #[cfg(test)]

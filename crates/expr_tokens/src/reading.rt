@@ -14,6 +14,9 @@ use moment_core::Op;
 use moment_text::{literal_laws, read_moment, shaped_front};
 use std::alloc::Global;
 
+/// The most bytes between the quotes of a string.
+pub const STRING_LIMIT: usize = 1024;
+
 /// The number that at most 13 digits write.
 fn value(digits: &[u8]) -> u64
     requires { length digits.now ≤ 13 }
@@ -58,7 +61,7 @@ fn name(place: usize, bytes: &[u8]) -> Option<(Token<'_>, &[u8])>
     Some((token, rest))
 }
 
-/// What stands behind a quote: at most 1,024 bytes and a quote.
+/// What stands behind a quote: at most `STRING_LIMIT` bytes and a quote.
 #[tactic(auto, unfolding(crate::specs::Reading::text_at, crate::specs::Reading::quote_at))]
 fn text(bytes: &[u8]) -> Option<(Token<'_>, &[u8])>
     ensures read { GivesFront result (text_at bytes.now) }
@@ -66,7 +69,7 @@ fn text(bytes: &[u8]) -> Option<(Token<'_>, &[u8])>
     ensures shorter { IsShorterFront result bytes.now }
 {
     let (quoted, rest) = split(Class::Quoted, bytes);
-    if quoted.len() > 1024 {
+    if quoted.len() > STRING_LIMIT {
         return None;
     }
     match rest {
@@ -155,9 +158,10 @@ fn token<'a>(place: usize, b: u8, bytes: &'a [u8], rest: &'a [u8]) -> Option<(To
 
 /// The tokens of a text, by the longest reading.
 ///
-/// A moment literal is read before a number. Spaces, tabs, line feeds and carriage returns separate tokens. A `Token` fault
-/// comes exactly where no token begins at a byte, also where a string has more than 1,024 bytes or isn't closed and where a
-/// number has more than 13 digits, and names the first such byte, where the token would begin.
+/// A moment literal is read before a number. Spaces, tabs, line feeds and carriage returns separate
+/// tokens. A `Token` fault comes exactly where no token begins at a byte, also where a string has
+/// more than `STRING_LIMIT` bytes or isn't closed and where a number has more than 13 digits, and
+/// names the first such byte, where the token would begin.
 pub fn tokens(alloc: Global, text: &[u8]) -> Result<Vec<Token<'_>>, TokenFault>
     ensures reading { IsReading text.now result }
     ensures tokens { IfOk result (λ v. tokens_of text.now ≡ Ok (plains v.items)) }

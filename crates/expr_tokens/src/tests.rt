@@ -2,9 +2,9 @@ use crate::*;
 use moment_core::Op;
 use std::test::Fail;
 
-// A token as a letter and a number: `#` and a number's value, `w` and the place of a word, `n` and the length of another
-// name, `"` and that of a string, `T` or `Z` and the seconds of a floating or an absolute moment, `x` and the place of a
-// literal that names none, and of a sign itself and 0.
+// A token as a letter and a number: `#` and a number's value, `w` and the place of a word, `n` and
+// the length of another name, `"` and that of a string, `T` or `Z` and the seconds of a floating or
+// an absolute moment, `x` and the place of a literal that names none, and of a sign itself and 0.
 fn code(token: &Token<'_>) -> (char, i64) {
     match token {
         Token::Open => ('(', 0),
@@ -30,7 +30,7 @@ fn code(token: &Token<'_>) -> (char, i64) {
 // The seconds are python3's, `datetime(y, m, d, h, n, s) - datetime(1970, 1, 1)`.
 #[test]
 fn texts_are_read_as_these_tokens(rt: HostRuntime) -> Result<(), Fail> {
-    let rows: [(&str, &[(char, i64)]); 19] = [
+    const ROWS: &[(&str, &[(char, i64)])] = &[
         ("", &[]),
         ("\t\r\n ", &[]),
         ("5-3", &[('#', 5), ('#', -3)]),
@@ -66,10 +66,10 @@ fn texts_are_read_as_these_tokens(rt: HostRuntime) -> Result<(), Fail> {
             &[('!', 0), ('(', 0), ('w', 2), ('(', 0), (')', 0), (')', 0)],
         ),
     ];
-    for (text, wanted) in rows {
+    for (text, wanted) in ROWS {
         let found = tokens(rt.alloc(), text.as_bytes())?;
         assert_eq!(rt; found.len(), wanted.len(), "{text}");
-        for (token, want) in found.iter().zip(wanted) {
+        for (token, want) in found.iter().zip(wanted.iter()) {
             assert_eq!(rt; code(token), *want, "{text}");
         }
     }
@@ -78,7 +78,7 @@ fn texts_are_read_as_these_tokens(rt: HostRuntime) -> Result<(), Fail> {
 
 #[test]
 fn no_token_begins_at_these_bytes(rt: HostRuntime) {
-    for (text, byte) in [
+    const ROWS: &[(&str, usize)] = &[
         ("a\"b", 1),
         ("\"abc", 0),
         ("\"a\nb\"", 0),
@@ -92,10 +92,11 @@ fn no_token_begins_at_these_bytes(rt: HostRuntime) {
         ("12024-01-01T00:00:00", 11),
         ("2024-01-01T00:00:00z#", 20),
         ("days = 1 # 2 #", 9),
-    ] {
+    ];
+    for (text, byte) in ROWS {
         assert_eq!(rt;
             tokens(rt.alloc(), text.as_bytes()).err(),
-            Some(TokenFault::Token { byte }),
+            Some(TokenFault::Token { byte: *byte }),
             "{text}"
         );
     }
@@ -137,7 +138,7 @@ fn strings_have_at_most_1024_bytes_and_blanks_any_number(rt: HostRuntime) -> Res
 
 #[test]
 fn each_name_of_the_grammar_is_its_word(rt: HostRuntime) -> Result<(), Fail> {
-    for (name, word) in [
+    const ROWS: &[(&str, Word)] = &[
         ("empty", Word::Empty),
         ("span", Word::Span),
         ("yearly", Word::Yearly),
@@ -168,11 +169,12 @@ fn each_name_of_the_grammar_is_its_word(rt: HostRuntime) -> Result<(), Fail> {
         ("seconds", Word::Seconds),
         ("interval", Word::Interval),
         ("week_start", Word::WeekStart),
-    ] {
+    ];
+    for (name, word) in ROWS {
         let found = tokens(rt.alloc(), name.as_bytes())?;
         assert_eq!(rt; found.len(), 1, "{name}");
         let token = found[0];
-        assert!(rt; matches!(token, Token::Word(w, 0) if w == word), "{name}");
+        assert!(rt; matches!(token, Token::Word(w, 0) if w == *word), "{name}");
     }
     Ok(())
 }

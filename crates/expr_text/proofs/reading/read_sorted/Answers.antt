@@ -1,6 +1,7 @@
 use Rattle.std.proofs.Common.{arith, ℕ, List, Result, Ok, Err}
 use Rattle.std.specs.Prelude.{IfOk}
-use Rattle.expr_text.specs.Accepted.{AreWellFormed, IsRead, tokens_in, unless_long}
+use Rattle.expr_text.specs.Accepted.{IsRead, tokens_in, unless_long}
+use Rattle.expr_tree.specs.WellFormed.{AreWellFormed}
 use Rattle.phases.specs.Phases.{By, fails, goes_on}
 use Rattle.expr_text.specs.Fault as faults
 use Rattle.expr_text.specs.Phases.{Tells, told}

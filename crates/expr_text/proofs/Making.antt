@@ -1,0 +1,162 @@
+-- Sets made from the leftmost part of an expression outwards.
+use Rattle.std.proofs.Common.{◌≡◌, ℕ, ◌+◌, ◌<◌, ◌≤◌, List, [], ◌∷◌, ◌++◌, Option, Some, None, Result, Ok, refl, ap, sym, subst, ◌∙◌, arith, length-append}
+use Rattle.std.specs.Prelude.{IfSome}
+use denote.Ref.{Bor}
+use Rattle.std.specs.List.{AllByRecursion}
+use Rattle.moment_core.proofs.Lists.{all_both}
+use Rattle.moment_core.specs.declared.joining.Op.{Op}
+use Rattle.rule_core.specs.declared.part.RuleFault.{RuleFault}
+use Rattle.expr_grammar.specs.Form.{Form}
+use Rattle.expr_grammar.specs.Form as forms
+use Rattle.expr_grammar.specs.Made.{IsDated, IsMade}
+use Rattle.expr_grammar.specs.Syntax.{all_places_of, form_of, forms_of, places_of, second_form, second_places}
+use Rattle.expr_grammar.specs.declared.syntax.SyntaxTree.{SyntaxTree}
+use Rattle.expr_grammar.specs.declared.syntax.SyntaxTrees.{SyntaxTrees}
+use Rattle.expr_tree.specs.declared.tree.Expr.{Expr}
+use Rattle.expr_text.specs.declared.building.Step.{Step}
+use Rattle.expr_text.specs.declared.building.Step.TheVariants as steps
+use Rattle.expr_text.specs.Fault.{Fault}
+use Rattle.expr_text.specs.Fault as faults
+use Rattle.expr_text.specs.Faults.{FirstVacant, HasPosition, second_spans, spans_of}
+use Rattle.expr_text.specs.Making.{HasPartFault, IsMadeOf, IsVacantAt, Makes, Reaches, form_around, places_around}
+use Rattle.expr_text.proofs.Spans.{placed_spans, vacant_behind, vacant_front}
+
+-- how many expressions stand in one
+abbrev pub size_of : Form → ℕ
+size_of forms.Empty = 1
+size_of (forms.Listed literals) = 1
+size_of (forms.Span low high) = 1
+size_of (forms.Rule freq fields) = 1
+size_of (forms.Joined op a b) = 1 + size_of a + size_of b
+size_of (forms.Inverse a) = 1 + size_of a
+
+-- one step more
+pub form_pushed : (path : List Step) (step : Step) (t : Form) → form_around (path ++ step ∷ []) t ≡ form_around path (form_around (step ∷ []) t)
+form_pushed [] step t = refl
+form_pushed (steps.Before op right ∷ path) step t = ap (λ (u : Form). forms.Joined op u (form_of right.now)) (form_pushed path step t)
+form_pushed (steps.Behind ∷ path) step t = ap (λ (u : Form). forms.Inverse u) (form_pushed path step t)
+
+pub places_pushed : (path : List Step) (step : Step) (ps : List ℕ) → places_around (path ++ step ∷ []) ps ≡ places_around path (places_around (step ∷ []) ps)
+places_pushed [] step ps = refl
+places_pushed (steps.Before op right ∷ path) step ps = ap (λ (qs : List ℕ). qs ++ places_of right.now) (places_pushed path step ps)
+places_pushed (steps.Behind ∷ path) step ps = places_pushed path step ps
+
+-- a part and what stands around it
+part_made : (path : List Step) (t : Form) → IsMade IsDated (form_around path t) → IsMade IsDated t
+part_made [] t h = h
+part_made (steps.Before op right ∷ path) t h = part_made path t h.0
+part_made (steps.Behind ∷ path) t h = part_made path t h
+
+in_sum : (n m k : ℕ) → n ≤ m → n ≤ 1 + m + k
+in_sum n m k h = omega arith
+
+in_next : (n m : ℕ) → n ≤ m → n ≤ 1 + m
+in_next n m h = omega arith
+
+below_sum : (n k s : ℕ) → 1 + n + k ≤ s → k < s
+below_sum n k s h = omega arith
+
+part_within : (path : List Step) (t : Form) → size_of t ≤ size_of (form_around path t)
+part_within [] t = omega arith
+part_within (steps.Before op right ∷ path) t = in_sum (size_of t) (size_of (form_around path t)) (size_of (form_of right.now)) (part_within path t)
+part_within (steps.Behind ∷ path) t = in_next (size_of t) (size_of (form_around path t)) (part_within path t)
+
+vacant_around : (path : List Step) (t : Form) (ps : List ℕ) (byte : ℕ) → FirstVacant (spans_of t) ps byte → FirstVacant (spans_of (form_around path t)) (places_around path ps) byte
+vacant_around [] t ps byte h = h
+vacant_around (steps.Before op right ∷ path) t ps byte h =
+    vacant_front (spans_of (form_around path t)) (spans_of (form_of right.now)) (places_around path ps) (places_of right.now) byte (vacant_around path t ps byte h)
+vacant_around (steps.Behind ∷ path) t ps byte h = vacant_around path t ps byte h
+
+-- a span without a position in a part is one of the whole
+pub vacant_part : (path : List Step) (t : Form) (ps : List ℕ) (o : Option Fault) → IfSome o (IsVacantAt t ps) → IfSome o (IsVacantAt (form_around path t) (places_around path ps))
+vacant_part path t ps None h = tt
+vacant_part path t ps (Some (faults.Moment byte)) h = vacant_around path t ps byte h
+vacant_part path t ps (Some fault) h = absurd h
+
+pub vacant_within : (path : List Step) (t u : Form) (ps qs : List ℕ) (o : Option Fault) → form_around path t ≡ u → places_around path ps ≡ qs → IfSome o (IsVacantAt t ps) → IfSome o (IsVacantAt u qs)
+vacant_within path t u ps qs o e d h = subst (λ (v : Form). IfSome o (IsVacantAt v qs)) e (subst (λ (rs : List ℕ). IfSome o (IsVacantAt (form_around path t) rs)) d (vacant_part path t ps o h))
+
+-- the leftmost part
+pub reaches_left : (tree : SyntaxTree) (t : Form) (ps : List ℕ) (made : Result Expr RuleFault) (path : List Step) → form_around path (form_of tree) ≡ t → places_around path (places_of tree) ≡ ps
+    → AllByRecursion HasPosition (spans_of (form_of tree)) → IsMadeOf (form_of tree) made → Reaches t ps made path
+reaches_left tree t ps made path e d held is = record {
+  part = form_of tree;
+  part_places = places_of tree;
+  whole = e;
+  whole_places = d;
+  placed = placed_spans tree;
+  held = held;
+  made_of = is;
+}
+
+-- back to the operator behind a part, and to the sign before it
+module _ (t : Form) (ps : List ℕ) (made : Result Expr RuleFault) (path : List Step) (h : Reaches t ps made path) where
+  module _ (front : List Step) (op : Op) (right : Bor SyntaxTree) (e : path ≡ front ++ steps.Before op right ∷ []) where
+    joined_whole : form_around front (forms.Joined op h.part (form_of right.now)) ≡ t
+    joined_whole = sym (form_pushed front (steps.Before op right) h.part) ∙ ap (λ (p : List Step). form_around p h.part) (sym e) ∙ h.whole
+
+    joined_places : places_around front (h.part_places ++ places_of right.now) ≡ ps
+    joined_places = sym (places_pushed front (steps.Before op right) h.part_places) ∙ ap (λ (p : List Step). places_around p h.part_places) (sym e) ∙ h.whole_places
+
+    pub right_made : IsMade IsDated t → IsMade IsDated (form_of right.now)
+    right_made made_whole = (part_made front (forms.Joined op h.part (form_of right.now)) (rw (← joined_whole) at made_whole)).1
+
+    pub right_within : size_of (form_of right.now) < size_of t
+    right_within =
+        below_sum (size_of h.part) (size_of (form_of right.now)) (size_of t) (rw joined_whole at (part_within front (forms.Joined op h.part (form_of right.now))))
+
+    right_vacant : (o : Option Fault) → IfSome o (IsVacantAt (form_of right.now) (places_of right.now))
+        → IfSome o (IsVacantAt (forms.Joined op h.part (form_of right.now)) (h.part_places ++ places_of right.now))
+    right_vacant None k = tt
+    right_vacant (Some (faults.Moment byte)) k =
+        vacant_behind (spans_of h.part) (spans_of (form_of right.now)) h.part_places (places_of right.now) byte h.placed h.held k
+    right_vacant (Some fault) k = absurd k
+
+    pub vacant_right : (o : Option Fault) → IfSome o (IsVacantAt (form_of right.now) (places_of right.now)) → IfSome o (IsVacantAt t ps)
+    vacant_right o k =
+        vacant_within front (forms.Joined op h.part (form_of right.now)) t (h.part_places ++ places_of right.now) ps o joined_whole joined_places (right_vacant o k)
+
+    pub reaches_joined : (r joined : Result Expr RuleFault) → Makes (form_of right.now) (places_of right.now) (Ok r)
+        → ((u v : Form) → IsMadeOf u made → IsMadeOf v r → IsMadeOf (forms.Joined op u v) joined) → Reaches t ps joined front
+    reaches_joined r joined k is = record {
+      part = forms.Joined op h.part (form_of right.now);
+      part_places = h.part_places ++ places_of right.now;
+      whole = joined_whole;
+      whole_places = joined_places;
+      placed = omega (arith, h.placed, placed_spans right.now, length-append h.part_places (places_of right.now), length-append (spans_of h.part) (spans_of (form_of right.now)));
+      held = all_both HasPosition (spans_of h.part) (spans_of (form_of right.now)) h.held k.0;
+      made_of = is h.part (form_of right.now) h.made_of k.1;
+    }
+
+  pub reaches_inverse : (front : List Step) → path ≡ front ++ steps.Behind ∷ [] → (inverse : Result Expr RuleFault)
+      → ((u : Form) → IsMadeOf u made → IsMadeOf (forms.Inverse u) inverse) → Reaches t ps inverse front
+  reaches_inverse front e inverse is = record {
+    part = forms.Inverse h.part;
+    part_places = h.part_places;
+    whole = sym (form_pushed front steps.Behind h.part) ∙ ap (λ (p : List Step). form_around p h.part) (sym e) ∙ h.whole;
+    whole_places = sym (places_pushed front steps.Behind h.part_places) ∙ ap (λ (p : List Step). places_around p h.part_places) (sym e) ∙ h.whole_places;
+    placed = h.placed;
+    held = h.held;
+    made_of = is h.part h.made_of;
+  }
+
+-- the whole expression
+pub made_whole : (t : Form) (ps : List ℕ) (made : Result Expr RuleFault) (path : List Step) → Reaches t ps made path → path ≡ [] → Makes t ps (Ok made)
+made_whole t ps made path h e =
+    let same : h.part ≡ t = ap (λ (p : List Step). form_around p h.part) (sym e) ∙ h.whole in
+    subst (λ (u : Form). Makes u ps (Ok made)) same (h.held, h.made_of)
+
+-- of one or two expressions
+module _ (p : SyntaxTrees) where
+  pub first_vacant : (o : Option Fault) → IfSome o (IsVacantAt (form_of p.first) (places_of p.first)) → IfSome o (HasPartFault (forms_of p) (all_places_of p))
+  first_vacant None h = tt
+  first_vacant (Some (faults.Moment byte)) h =
+      vacant_front (spans_of (form_of p.first)) (second_spans (second_form p.second)) (places_of p.first) (second_places p.second) byte h
+  first_vacant (Some fault) h = absurd h
+
+  pub second_vacant : (second : SyntaxTree) (o : Option Fault) → p.second ≡ Some second → AllByRecursion HasPosition (spans_of (form_of p.first))
+      → IfSome o (IsVacantAt (form_of second) (places_of second)) → IfSome o (HasPartFault (forms_of p) (all_places_of p))
+  second_vacant second None e held h = tt
+  second_vacant second (Some (faults.Moment byte)) e held h =
+      rw e (vacant_behind (spans_of (form_of p.first)) (spans_of (form_of second)) (places_of p.first) (places_of second) byte (placed_spans p.first) held h)
+  second_vacant second (Some fault) e held h = absurd h

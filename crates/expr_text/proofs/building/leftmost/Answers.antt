@@ -1,0 +1,45 @@
+use Rattle.std.proofs.Common.{rules, ◌≡◌, [], ◌∷◌, ◌++◌, Ok, Err, refl}
+use Rattle.expr_grammar.specs.Syntax.{form_of, places_of}
+use Rattle.expr_tree.specs.declared.tree.Expr.TheVariants as exprs
+use Rattle.expr_text.specs.declared.building.Step.TheVariants as steps
+use Rattle.expr_text.specs.Fault.{fault_in}
+use Rattle.expr_text.proofs.Making.{form_pushed, places_pushed, reaches_left, vacant_within}
+use Rattle.expr_text.proofs.Moments.{listed_from}
+use Rattle.expr_text.proofs.building.leftmost.Goals as goal
+
+pub returns-in-List : goal.returns-in-List
+returns-in-List c =
+    let h = c.left.invariant in
+    let is = listed_from c.in-List.literals.items c.of.result (rw c.in-List.is at h.dated) (search rules) in
+    reaches_left c.left.left.now (form_of c.args.tree.now) (places_of c.args.tree.now) (Ok (exprs.List c.of.result)) c.left.steps.items h.whole h.whole_places
+    (rw c.in-List.is tt) (rw c.in-List.is (refl, is))
+
+pub returns-in_err-span-in-Span : goal.returns-in_err-span-in-Span
+returns-in_err-span-in-Span c =
+    let h = c.left.invariant in
+    let is : c.from_residual-in_err-span-in-Span.result ≡ Err c.in_err-span-in-Span.field-0.0 = search rules in
+    rw is (vacant_within c.left.steps.items (form_of c.left.left.now) (form_of c.args.tree.now) (places_of c.left.left.now) (places_of c.args.tree.now)
+    (fault_in c.in_err-span-in-Span.field-0.0) h.whole h.whole_places (rw c.in-Span.is c.in_err-span-in-Span.ensures))
+
+pub left-preserved-in-Joined : goal.left-preserved-in-Joined
+left-preserved-in-Joined c =
+    let h = c.left.invariant in
+    let step = steps.Before c.in-Joined.op c.deref-in-Joined.result in
+    let pushed : c.push.new.self.items ≡ c.left.steps.items ++ step ∷ [] = search rules in
+    let left = c.in-Joined.a.value in
+    record {
+      whole = rw (pushed, c.deref-left.ensures, form_pushed c.left.steps.items step (form_of left), c.deref-in-Joined.ensures) (rw c.in-Joined.is at h.whole);
+      whole_places = rw (pushed, c.deref-left.ensures, places_pushed c.left.steps.items step (places_of left), c.deref-in-Joined.ensures) (rw c.in-Joined.is at h.whole_places);
+      dated = rw c.deref-left.ensures (rw c.in-Joined.is at h.dated).0;
+    }
+
+pub left-preserved : goal.left-preserved
+left-preserved c =
+    let h = c.left.invariant in
+    let pushed : c.push-in-Inverse.new.self.items ≡ c.left.steps.items ++ steps.Behind ∷ [] = search rules in
+    let inner = c.in-Inverse.a.value in
+    record {
+      whole = rw (pushed, c.deref-left-in-Inverse.ensures, form_pushed c.left.steps.items steps.Behind (form_of inner)) (rw c.in-Inverse.is at h.whole);
+      whole_places = rw (pushed, c.deref-left-in-Inverse.ensures, places_pushed c.left.steps.items steps.Behind (places_of inner)) (rw c.in-Inverse.is at h.whole_places);
+      dated = rw c.deref-left-in-Inverse.ensures (rw c.in-Inverse.is at h.dated);
+    }
