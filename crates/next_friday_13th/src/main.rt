@@ -3,10 +3,10 @@
 
 ghost use Rattle.std.specs.Prelude.{◌≡◌, ◌<◌};
 
-use cert_audit::Ready;
 use expr_text::read_sorted;
 use moment_core::{Moment, Steps};
-use near_search::next;
+use plan_core::Plan;
+use query_core::next;
 use report_text::line_near;
 use std::io::{self, Write};
 use std::marker::Brand;
@@ -30,11 +30,11 @@ fn answer<L: Ledger>(rt: &HostRuntime, blank: Blank) -> io::Result<()>
     let Ok(program) = read_sorted(alloc, TEXT.as_bytes(), &book) else {
         return Ok(());
     };
-    let Ok(ready) = Ready::make(alloc, &program.first.set, &book) else {
+    let Ok(mut plan) = Plan::make(alloc, &program.first.set, &book) else {
         return Ok(());
     };
     let mut steps = Steps::<L>::new(blank);
-    let near = next(&ready, AT, 1_000_000, &mut steps);
+    let near = next(&mut plan, AT, 1_000_000, &mut steps);
     let line = line_near(near, program.first.sort.kind, program.first.sort.clock);
     rt.stdout().write_all(line.bytes())
 }

@@ -13,7 +13,7 @@ use Rattle.query_words.specs.declared.commands.Command.{Command}
 use Rattle.query_words.specs.declared.commands.Command.TheVariants.{Show}
 use Rattle.query_words.specs.declared.queries.Neighbour.{Neighbour}
 use Rattle.query_words.specs.declared.queries.Neighbour.TheVariants as neighbours
-use Rattle.query_words.specs.Neighbours.{command_of}
+use Rattle.query_words.specs.Neighbours.{command_of, neighbour_of}
 use Rattle.query_words.proofs.SettingLemmas.{near_built}
 use Rattle.query_words.specs.declared.commands.Key.{Key}
 use Rattle.query_words.specs.declared.commands.Key.TheVariants.{At, Budget}
@@ -72,9 +72,22 @@ one_budget command later n m good (by_default lacks) (by_default also) = refl
 
 near_not_show : (side : Neighbour) → command_of side ≢ Show
 near_not_show neighbours.Next e = cc
+near_not_show neighbours.Previous e = cc
+near_not_show neighbours.Current e = cc
+near_not_show neighbours.Closest e = cc
+near_not_show neighbours.Contains e = cc
+
+asked_again : (side : Neighbour) → neighbour_of (command_of side) ≡ Some side
+asked_again neighbours.Next = refl
+asked_again neighbours.Previous = refl
+asked_again neighbours.Current = refl
+asked_again neighbours.Closest = refl
+asked_again neighbours.Contains = refl
 
 one_side : (a b : Neighbour) → command_of a ≡ command_of b → a ≡ b
-one_side neighbours.Next neighbours.Next e = refl
+one_side a b e =
+    let same : Some a ≡ Some b = sym (asked_again a) ∙ ap neighbour_of e ∙ asked_again b in
+    cc
 
 one_query : LiteralsTellMomentsApart → (words : List (List ℕ)) {p q : Query} → Asks words p → Asks words q → p ≡ q
 one_query apart words (near side later at budget e good says pays) (near other rest also_at also_budget f fine tells spends) =

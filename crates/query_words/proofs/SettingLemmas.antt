@@ -14,7 +14,7 @@ use Rattle.std.proofs.lemmas.List.{get_or-set_same, get_or-set_other, length-set
 use Rattle.query_words.specs.declared.queries.Query.TheVariants.{Near, Show as Showing}
 use Rattle.query_words.specs.declared.queries.Neighbour.{Neighbour}
 use Rattle.query_words.specs.declared.queries.Neighbour.TheVariants as neighbours
-use Rattle.query_words.specs.Neighbours.{command_of}
+use Rattle.query_words.specs.Neighbours.{command_of, neighbour_of}
 use Rattle.query_words.specs.declared.queries.WordsFault.TheVariants.{Bad}
 use Rattle.query_words.specs.declared.settings.Settings.{Settings}
 use Rattle.query_words.specs.Commands.{name_of, is_built, required}
@@ -186,9 +186,17 @@ at_told words o at told e = subst (Tells words At IsStamp) e told
 -- each of these commands is built, and needs the moment alone
 pub near_built : (side : Neighbour) → is_built (command_of side) ≡ true
 near_built neighbours.Next = refl
+near_built neighbours.Previous = refl
+near_built neighbours.Current = refl
+near_built neighbours.Closest = refl
+near_built neighbours.Contains = refl
 
 pub near_needs : (side : Neighbour) → required (command_of side) ≡ At ∷ []
 near_needs neighbours.Next = refl
+near_needs neighbours.Previous = refl
+near_needs neighbours.Current = refl
+near_needs neighbours.Closest = refl
+near_needs neighbours.Contains = refl
 
 needs_at : (side : Neighbour) (key : Key) → Contains (required (command_of side)) key → Contains (At ∷ []) key
 needs_at side key has = subst (λ (keys : List Key). Contains keys key) (near_needs side) has
@@ -218,25 +226,25 @@ no_words bytes (x ∷ xs) e = absurd (omega (arith, e))
 pub no_name : (words later : List (List ℕ)) (first : List ℕ) → words ≡ first ∷ later → ((command : Command) → first ≢ name_of command) → IsRefused words (Bad 0)
 no_name words later first e none = no_command (λ command rest same. none command (let whole = sym e ∙ same in cc))
 
-pub not_built : (command : Command) → command ≢ Next → command ≢ Show → is_built command ≡ false
-not_built Next a b = absurd (a refl)
-not_built Show a b = absurd (b refl)
-not_built Previous a b = refl
-not_built Current a b = refl
-not_built Closest a b = refl
-not_built ContainsOf a b = refl
-not_built Walk a b = refl
-not_built Resume a b = refl
-not_built Min a b = refl
-not_built Max a b = refl
-not_built Empty a b = refl
-not_built Count a b = refl
-not_built Duration a b = refl
-not_built Audit a b = refl
-not_built ContainsSet a b = refl
-not_built Intersects a b = refl
-not_built Intersected a b = refl
-not_built Load a b = refl
+pub not_built : (command : Command) → neighbour_of command ≡ None → command ≢ Show → is_built command ≡ false
+not_built Next e other = absurd cc
+not_built Previous e other = absurd cc
+not_built Current e other = absurd cc
+not_built Closest e other = absurd cc
+not_built ContainsOf e other = absurd cc
+not_built Walk e other = refl
+not_built Resume e other = refl
+not_built Min e other = refl
+not_built Max e other = refl
+not_built Empty e other = refl
+not_built Count e other = refl
+not_built Duration e other = refl
+not_built Audit e other = refl
+not_built ContainsSet e other = refl
+not_built Intersects e other = refl
+not_built Intersected e other = refl
+not_built Show e other = absurd (other refl)
+not_built Load e other = refl
 
 pub some_not_none : {X : Type 0} (o : Option X) → is_some o ≡ true → o ≡ None → ⊥
 some_not_none None e d = absurd cc

@@ -375,10 +375,10 @@ module _ (apart : LiteralsTellMomentsApart) where
   good_query : (command : Command) (later : List (List ℕ)) → is_built command ≡ true → AreGood command later → (q : Query) × Asks (name_of command ∷ later) q
   good_query Next later built good = good_near neighbours.Next later good
   good_query Show later built good = (Showing, show later refl good)
-  good_query Previous later built good = absurd (true≢false (sym built))
-  good_query Current later built good = absurd (true≢false (sym built))
-  good_query Closest later built good = absurd (true≢false (sym built))
-  good_query ContainsOf later built good = absurd (true≢false (sym built))
+  good_query Previous later built good = good_near neighbours.Previous later good
+  good_query Current later built good = good_near neighbours.Current later good
+  good_query Closest later built good = good_near neighbours.Closest later good
+  good_query ContainsOf later built good = good_near neighbours.Contains later good
   good_query Walk later built good = absurd (true≢false (sym built))
   good_query Resume later built good = absurd (true≢false (sym built))
   good_query Min later built good = absurd (true≢false (sym built))

@@ -74,6 +74,10 @@ keys_of command = required command ++ optional command
 -- the commands that are built
 abbrev pub is_built : Command → Bool
 is_built Next = true
+is_built Previous = true
+is_built Current = true
+is_built Closest = true
+is_built Contains = true
 is_built Show = true
 is_built other = false
 

@@ -50,7 +50,8 @@ number_in v = None
 -- each of the first n words fits
 abbrev pub FitBelow : Command → List (List ℕ) → ℕ → Type 0
 FitBelow command words n =
-    (before : List (List ℕ)) (word : List ℕ) (after : List (List ℕ)) → words ≡ before ++ word ∷ after
+    (before : List (List ℕ)) (word : List ℕ) (after : List (List ℕ))
+    → words ≡ before ++ word ∷ after
     → length before < n → Fits command before word
 
 -- so does each of them

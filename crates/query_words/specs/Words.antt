@@ -76,7 +76,8 @@ IsValue Token = λ text v. ⊥
 IsValue Seed = IsNumberValue 0 18_446_744_073_709_551_615
 
 -- a word gives the key a value, which says x
-pub record Says {X : Type 0} (later : List (List ℕ)) (key : Key) (Is : List ℕ → X → Type 0) (x : X) : Type 0 where
+pub record Says {X : Type 0} (later : List (List ℕ)) (key : Key) (Is : List ℕ → X → Type 0)
+    (x : X) : Type 0 where
   pub value : List ℕ
   pub given : Gives later key value
   pub is : Is value x
@@ -87,8 +88,10 @@ AreInOrder first last = (first.moment.0 ≤ℤ last.moment.0) × (first.absolute
 
 -- the ends of a window are in order, where the other one was given before
 abbrev pub Agrees : List (List ℕ) → Key → Value → Type 0
-Agrees before From (Stamped first) = (last : Stamp) → Says before To IsStamp last → AreInOrder first last
-Agrees before To (Stamped last) = (first : Stamp) → Says before From IsStamp first → AreInOrder first last
+Agrees before From (Stamped first) =
+    (last : Stamp) → Says before To IsStamp last → AreInOrder first last
+Agrees before To (Stamped last) =
+    (first : Stamp) → Says before From IsStamp first → AreInOrder first last
 Agrees before key v = Unit {0}
 
 -- a text in the key's form, which agrees with what the words before it say
@@ -97,7 +100,8 @@ pub record InForm (before : List (List ℕ)) (key : Key) (text : List ℕ) : Typ
   pub is : IsValue key text value
   pub agrees : Agrees before key value
 
--- the word is `key=value` with a key of the command, which no word before it gives, and a value in the key's form
+-- the word is `key=value` with a key of the command, which no word before it gives, and a value in
+-- the key's form
 pub record Fits (command : Command) (before : List (List ℕ)) (word : List ℕ) : Type 0 where
   pub key : Key
   pub value : List ℕ
@@ -106,11 +110,12 @@ pub record Fits (command : Command) (before : List (List ℕ)) (word : List ℕ)
   pub first : Lacks before key
   pub in_form : InForm before key value
 
--- The number of a bad word, where the words behind the command are these. The command's word has the number 0. Where a
--- required key is missing, the end is bad.
+-- The number of a bad word, where the words behind the command are these. The command's word has
+-- the number 0. Where a required key is missing, the end is bad.
 pub data IsBad (command : Command) (later : List (List ℕ)) : ℕ → Type 0 where
   unfit : (before : List (List ℕ)) (word : List ℕ) (after : List (List ℕ))
-      → later ≡ before ++ word ∷ after → ¬ (Fits command before word) → IsBad command later (suc (length before))
+      → later ≡ before ++ word ∷ after → ¬ (Fits command before word)
+      → IsBad command later (suc (length before))
   missing : (key : Key) → Contains (required command) key → Lacks later key
       → IsBad command later (suc (length later))
 

@@ -1,7 +1,8 @@
 //! The words of the command line.
 //!
-//! The first word is the command, and each later one `key=value` with one of the command's keys, as in
-//! `next at=2024-01-01T00:00:00Z budget=5`. They are read whole into a query, or the first bad word is told by its number.
+//! The first word is the command, and each later one `key=value` with one of the command's keys, as
+//! in `next at=2024-01-01T00:00:00Z budget=5`. They are read whole into a query, or the first bad
+//! word is told by its number.
 #![tactic(auto)]
 
 mod commands;

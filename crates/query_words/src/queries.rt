@@ -3,19 +3,41 @@
 ghost use Rattle.std.specs.Prelude.{◌≡◌, ◌∷◌, [], true};
 ghost use Rattle.query_words.specs.declared.commands.Key.TheVariants.{At};
 ghost use Rattle.query_words.specs.Commands.{is_built, required};
-ghost use Rattle.query_words.specs.Neighbours.{command_of};
+ghost use Rattle.query_words.specs.Neighbours.{command_of, neighbour_of};
 
 use crate::commands::Command;
 use moment_core::Stamp;
 
-/// Which run a query asks for by a moment.
+/// What a query asks for by a moment.
 #[derive(Clone, Copy, Debug, PartialEq, Eq)]
 pub enum Neighbour {
     /// The first run that begins after the moment.
     Next,
+    /// The last run that ends before the moment.
+    Previous,
+    /// The run that holds the moment, or else the previous one.
+    Current,
+    /// The run that holds the moment, or else the nearer of the previous and the next one.
+    Closest,
+    /// Whether a run holds the moment.
+    Contains,
 }
 
 impl Neighbour {
+    /// What a command asks for by a moment, or None for another command.
+    pub fn asked_by(command: Command) -> Option<Neighbour>
+        ensures { result ≡ neighbour_of command }
+    {
+        match command {
+            Command::Next => Some(Neighbour::Next),
+            Command::Previous => Some(Neighbour::Previous),
+            Command::Current => Some(Neighbour::Current),
+            Command::Closest => Some(Neighbour::Closest),
+            Command::Contains => Some(Neighbour::Contains),
+            _ => None,
+        }
+    }
+
     /// The command that asks for it.
     pub fn command(self) -> Command
         ensures value { result ≡ command_of self }
@@ -24,6 +46,10 @@ impl Neighbour {
     {
         match self {
             Neighbour::Next => Command::Next,
+            Neighbour::Previous => Command::Previous,
+            Neighbour::Current => Command::Current,
+            Neighbour::Closest => Command::Closest,
+            Neighbour::Contains => Command::Contains,
         }
     }
 }
@@ -31,7 +57,7 @@ impl Neighbour {
 /// A query of the command line.
 #[derive(Clone, Copy, Debug, PartialEq, Eq)]
 pub enum Query {
-    /// A run by the moment `at`, with a budget of steps for each search.
+    /// A run by the moment `at`, or whether one holds it, with a budget for each search.
     Near {
         side: Neighbour,
         at: Stamp,
@@ -46,6 +72,7 @@ pub enum Query {
 pub enum WordsFault {
     /// The first word is a command that the program doesn't answer yet.
     Unbuilt,
-    /// The number of the first bad word, from 0, or the number of words where a required key is missing.
+    /// The number of the first bad word, from 0, or the number of words where a required key is
+    /// missing.
     Bad(usize),
 }

@@ -38,13 +38,14 @@ fn read_show(later: &[String]) -> Result<Query, WordsFault>
 
 /// The query that the words of the command line ask, or their fault.
 ///
-/// The first word is the command and each later one `key=value`, with a key of the command, each at most once. `at` is the
-/// literal of a moment of the calendar range, absolute or floating. `budget` is decimal digits without a sign, of 1 to
-/// 1,000,000,000,000; without it the budget is [`DEFAULT_BUDGET`].
+/// The first word is the command and each later one `key=value`, with a key of the command, each at
+/// most once. `at` is the literal of a moment of the calendar range, absolute or floating. `budget`
+/// is decimal digits without a sign, of 1 to 1,000,000,000,000; without it the budget is
+/// [`DEFAULT_BUDGET`].
 ///
-/// `Unbuilt` comes exactly where the first word is a command that isn't answered yet, whatever follows. `Bad` tells the
-/// number of the first bad word, from 0; where no word is bad and the command or a required key is missing, it is the
-/// number of words.
+/// `Unbuilt` comes exactly where the first word is a command that isn't answered yet, whatever
+/// follows. `Bad` tells the number of the first bad word, from 0; where no word is bad and the
+/// command or a required key is missing, it is the number of words.
 pub fn read_words(words: &[String]) -> Result<Query, WordsFault>
     ensures { AreRead (map string_bytes words.now) result }
 {
@@ -54,9 +55,11 @@ pub fn read_words(words: &[String]) -> Result<Query, WordsFault>
     let Some(command) = Command::named(first.as_str()) else {
         return Err(WordsFault::Bad(0));
     };
-    match command {
-        Command::Next => read_near(Neighbour::Next, later),
-        Command::Show => read_show(later),
-        _ => Err(WordsFault::Unbuilt),
+    if command == Command::Show {
+        return read_show(later);
+    }
+    match Neighbour::asked_by(command) {
+        Some(side) => read_near(side, later),
+        None => Err(WordsFault::Unbuilt),
     }
 }

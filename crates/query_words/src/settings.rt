@@ -77,7 +77,8 @@ impl Settings {
         }
     }
 
-    /// Whether the value and what was set before are the ends of a window in order, where they are such ends.
+    /// Whether the value and what was set before are the ends of a window in order, where they are
+    /// such ends.
     fn agrees(&self, key: Key, value: Value) -> bool
         ensures fits { IsTrue result → (before : List (List ℕ)) → Holds before self.now
             → Agrees before key value }
@@ -105,7 +106,8 @@ impl Settings {
         command.takes(key) && self.give(key, value)
     }
 
-    /// Reads the value of a key that wasn't given before, and tells whether that is so and the value is in the key's form.
+    /// Reads the value of a key that wasn't given before, and tells whether that is so and the
+    /// value is in the key's form.
     fn give(&mut self, key: Key, value: &str) -> bool
         ensures fits { IsTrue result → (before : List (List ℕ)) → Holds before self.old
             → Lacks before key × InForm before key value.now
@@ -128,7 +130,8 @@ impl Settings {
     }
 }
 
-/// The values that the words behind a command give, or the fault of the first word that doesn't fit.
+/// The values that the words behind a command give, or the fault of the first word that doesn't
+/// fit.
 pub(crate) fn read_settings(command: Command, later: &[String]) -> Result<Settings, WordsFault>
     requires built { is_built command ≡ true }
     requires short { length later.now + 1 < 2 ^ 64 }

@@ -25,8 +25,8 @@ pub(crate) fn setting(word: &str) -> Option<(Key, &str)>
     Some((key, value))
 }
 
-/// The number from `least` to `most` that decimal digits without a sign write, perhaps with zeros in front, or None for
-/// another text.
+/// The number from `least` to `most` that decimal digits without a sign write, perhaps with zeros
+/// in front, or None for another text.
 fn read_number(digits: &str, least: u64, most: u64) -> Option<u64>
     ensures some { IfSome result (λ n. IsNumber least most digits.now n) }
     ensures none { IfNone result ((n : ℕ) → ¬ (IsNumber least most digits.now n)) }

@@ -1,4 +1,5 @@
--- Lines of output: the bytes of moments, runs, windows and stops, and of the lines that they stand in.
+-- Lines of output: the bytes of moments, runs, windows and stops, and of the lines that they stand
+-- in.
 use Rattle.std.specs.Prelude.{ℕ, ℤ, List, ◌++◌, codes, decimal, Option, Some, None, if◌then◌else◌}
 use Rattle.std.specs.Fmt.{signed_decimal}
 use Rattle.std.specs.Option.{option_map_or}
@@ -13,6 +14,8 @@ use Rattle.moment_text.specs.Literal.{literal_of}
 use Rattle.span_core.specs.declared.answers.Near.{Near}
 use Rattle.span_core.specs.declared.answers.Near.TheVariants.{Found, None as Never, Edge as Unsaid, Budget}
 use Rattle.span_core.specs.declared.answers.Stop.{Stop}
+use Rattle.span_core.specs.declared.answers.Test.{Test}
+use Rattle.span_core.specs.declared.answers.Test.TheVariants as tests
 use Rattle.span_core.specs.declared.bounds.Bound.{Bound}
 use Rattle.span_core.specs.declared.bounds.Bound.TheVariants.{Closed, Open, Inf, Edge}
 use Rattle.span_core.specs.declared.bounds.Run.{Run}
@@ -42,14 +45,16 @@ high_text clock Edge = codes "edge)"
 abbrev pub span_text : Clock → Run → List ℕ
 span_text clock run = low_text clock run.first ++ codes " .. " ++ high_text clock run.last
 
--- the moment at which a run begins, if it begins with one: without a bound it is the calendar range's first
+-- the moment at which a run begins, if it begins with one: without a bound it is the calendar
+-- range's first
 abbrev pub first_moment : Bound → Option Moment
 first_moment (Closed t) = Some t
 first_moment (Open t) = None
 first_moment Inf = Some (record { 0 = LOW })
 first_moment Edge = Some (record { 0 = LOW })
 
--- the moment at which a run ends, if it ends with one: without a bound it is the calendar range's last
+-- the moment at which a run ends, if it ends with one: without a bound it is the calendar range's
+-- last
 abbrev pub last_moment : Bound → Option Moment
 last_moment (Closed t) = Some t
 last_moment (Open t) = None
@@ -90,3 +95,13 @@ near_text (Budget s) kind clock = codes "budget " ++ stop_text s
 -- The line of a neighbour.
 abbrev pub near_line : Near → Kind → Clock → List ℕ
 near_line near kind clock = with_line_feed (near_text near kind clock)
+
+-- whether a moment is a member, or where the search stopped
+abbrev pub test_text : Test → List ℕ
+test_text tests.In = codes "yes"
+test_text tests.Out = codes "no"
+test_text (tests.Budget s) = codes "budget " ++ stop_text s
+
+-- The line of such an answer.
+abbrev pub test_line : Test → List ℕ
+test_line test = with_line_feed (test_text test)

@@ -40,6 +40,7 @@ part_name parts.Wkst = codes "WKST"
 
 -- the two that don't go together, or the one whose value is out of its range
 abbrev pub rule_fault_text : RuleFault → List ℕ
-rule_fault_text (BadMix first second) = codes "mix " ++ part_name first ++ codes " " ++ part_name second
+rule_fault_text (BadMix first second) =
+    codes "mix " ++ part_name first ++ codes " " ++ part_name second
 rule_fault_text (BadValue part) = codes "value " ++ part_name part
 rule_fault_text BadInterval = codes "interval"

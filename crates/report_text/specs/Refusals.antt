@@ -2,7 +2,7 @@
 use Rattle.std.specs.Prelude.{ℕ, List, ◌++◌, codes, decimal}
 use Rattle.expr_tree.specs.declared.sorting.SortFault.{SortFault}
 use Rattle.expr_tree.specs.declared.sorting.SortFault.TheVariants as sorts
-use Rattle.moment_core.specs.Line.{IsCalendarMoment}
+use Rattle.moment_core.specs.Line.{IsWorkingMoment}
 use Rattle.moment_core.specs.declared.line.Clock.TheVariants.{Floating}
 use Rattle.report_text.specs.Lines.{moment_text, with_line_feed}
 use Rattle.report_text.specs.Parts.{rule_fault_text}
@@ -29,11 +29,12 @@ refusal_text (Rule fault) = codes "rule " ++ rule_fault_text fault
 refusal_text (Sort fault) = codes "sort " ++ sort_text fault
 refusal_text Two = codes "two"
 refusal_text Clock = codes "clock"
-refusal_text (Settle passed at) = codes "settle " ++ decimal passed ++ codes " " ++ moment_text Floating at.0
+refusal_text (Settle passed at) =
+    codes "settle " ++ decimal passed ++ codes " " ++ moment_text Floating at.0
 
--- a moment that the line tells is of the calendar range
+-- a candidate that the line tells is of the working range
 abbrev pub IsPrintable : Refusal → Type 0
-IsPrintable (Settle passed at) = IsCalendarMoment at.0
+IsPrintable (Settle passed at) = IsWorkingMoment at.0
 IsPrintable refusal = Unit {0}
 
 -- The line of a refusal.

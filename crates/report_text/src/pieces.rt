@@ -1,7 +1,7 @@
 //! What several lines have in common: moments, runs, windows and stops.
 
 ghost use Rattle.std.specs.Prelude.{◌≡◌, ◌+◌, ◌≤◌, ◌++◌, decimal, length};
-ghost use Rattle.moment_core.specs.Line.{IsCalendarMoment};
+ghost use Rattle.moment_core.specs.Line.{IsWorkingMoment};
 ghost use Rattle.span_core.specs.Answers.{IsCalendarWindow};
 ghost use Rattle.span_core.specs.Bounds.{IsCalendarBound, IsCalendarRun};
 ghost use Rattle.report_text.specs.Lines.{first_moment, high_text, last_moment, low_text, moment_text, only_moment, run_text, span_text, stop_text, window_text};
@@ -15,7 +15,7 @@ use span_core::{Bound, Run, Stop};
 
 pub fn put_moment(line: &mut Line, moment: Moment, clock: Clock)
     requires room { length line.old + 21 ≤ 128 }
-    requires in_range { IsCalendarMoment moment.0 }
+    requires in_range { IsWorkingMoment moment.0 }
     ensures bytes { line.new ≡ line.old ++ moment_text clock moment.0 }
     ensures len { length line.new ≤ length line.old + 21 }
 {

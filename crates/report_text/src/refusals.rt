@@ -33,7 +33,8 @@ pub enum Refusal {
     Two,
     /// A word's moment stands on another clock than the expressions.
     Clock,
-    /// A rule with a count has no last member within so many candidates, the last of them at the moment.
+    /// A rule with a count has no last member within so many candidates, the last of them at the
+    /// moment.
     Settle { passed: u64, at: Moment },
 }
 

@@ -5,9 +5,10 @@ ghost use Rattle.report_text.specs.Refusals.{IsPrintable};
 
 use crate::{Refusal, line_near, line_refusal};
 use expr_tree::{Kind, SortFault};
-use moment_core::{Clock, HIGH, LOW, Moment, Pos, Window, floor, in_range};
+use moment_core::{Clock, HIGH, LOW, Moment, Pos, Window, floor, in_range, in_work};
 use rule_core::{Part, RuleFault};
 use span_core::{Bound, Near, Run, Stop};
+use std::process::Abort;
 
 fn is_calendar_bound(bound: Bound) -> bool
     ensures { result ≡ true → IsCalendarBound bound }
@@ -28,17 +29,12 @@ fn is_calendar_near(near: Near) -> bool
     }
 }
 
-fn found(first: Bound, last: Bound) -> Near {
-    Near::Found(Run { first, last })
-}
-
-fn none(lo: i64, hi: i64) -> Near {
-    let (lo, hi) = (Pos(lo), Pos(hi));
-    Near::None(Window { lo, hi })
-}
-
-fn budget(at: i64, node: u32) -> Near {
-    Near::Budget(Stop { at: Pos(at), node })
+/// The run is written as this line.
+fn is_run(rt: &impl Abort, (first, last): (Bound, Bound), kind: Kind, clock: Clock, text: &str) {
+    let near = Near::Found(Run { first, last });
+    assert!(rt; is_calendar_near(near), "{text}");
+    let line = line_near(near, kind, clock);
+    assert_eq!(rt; line.bytes(), text.as_bytes(), "{text}");
 }
 
 // The seconds here and below are those of `date -u`.
@@ -48,101 +44,113 @@ const END: Moment = Moment(1_709_296_200);
 
 #[test]
 fn a_moment_of_a_set_of_moments_stands_alone_on_its_line(rt: HostRuntime) {
-    let one = Bound::Closed(BEGIN);
-    let low = Bound::Closed(Moment(LOW));
-    let high = Bound::Closed(Moment(HIGH));
-    for (first, last, clock, text) in [
-        (one, one, Clock::Floating, "2024-01-01T00:00:00\n"),
-        (one, one, Clock::Any, "2024-01-01T00:00:00\n"),
-        (one, one, Clock::Absolute, "2024-01-01T00:00:00Z\n"),
-        (low, low, Clock::Any, "-9900-01-01T00:00:00\n"),
-        (Bound::Inf, low, Clock::Any, "-9900-01-01T00:00:00\n"),
-        (Bound::Edge, low, Clock::Any, "-9900-01-01T00:00:00\n"),
-        (high, high, Clock::Any, "9900-12-31T23:59:59\n"),
-        (high, Bound::Inf, Clock::Any, "9900-12-31T23:59:59\n"),
-        (high, Bound::Edge, Clock::Any, "9900-12-31T23:59:59\n"),
-    ] {
-        let near = found(first, last);
-        assert!(rt; is_calendar_near(near), "{text}");
-        let line = line_near(near, Kind::Moments, clock);
-        assert_eq!(rt; line.bytes(), text.as_bytes(), "{text}");
+    const ONE: Bound = Bound::Closed(BEGIN);
+    const FIRST: Bound = Bound::Closed(Moment(LOW));
+    const LAST: Bound = Bound::Closed(Moment(HIGH));
+    const ROWS: &[(Bound, Bound, Clock, &str)] = &[
+        (ONE, ONE, Clock::Floating, "2024-01-01T00:00:00\n"),
+        (ONE, ONE, Clock::Any, "2024-01-01T00:00:00\n"),
+        (ONE, ONE, Clock::Absolute, "2024-01-01T00:00:00Z\n"),
+        (FIRST, FIRST, Clock::Any, "-9900-01-01T00:00:00\n"),
+        (Bound::Inf, FIRST, Clock::Any, "-9900-01-01T00:00:00\n"),
+        (Bound::Edge, FIRST, Clock::Any, "-9900-01-01T00:00:00\n"),
+        (LAST, LAST, Clock::Any, "9900-12-31T23:59:59\n"),
+        (LAST, Bound::Inf, Clock::Any, "9900-12-31T23:59:59\n"),
+        (LAST, Bound::Edge, Clock::Any, "9900-12-31T23:59:59\n"),
+    ];
+    for (first, last, clock, text) in ROWS {
+        is_run(&rt, (*first, *last), Kind::Moments, *clock, text);
     }
 }
 
 #[test]
 fn a_span_is_written_with_its_two_bounds(rt: HostRuntime) {
-    let (closed, open) = (Bound::Closed(BEGIN), Bound::Open(BEGIN));
-    let (end, before_end) = (Bound::Closed(END), Bound::Open(END));
-    for (first, last, text) in [
+    const CLOSED: Bound = Bound::Closed(BEGIN);
+    const OPEN: Bound = Bound::Open(BEGIN);
+    const AT_END: Bound = Bound::Closed(END);
+    const BEFORE_END: Bound = Bound::Open(END);
+    const ROWS: &[(Bound, Bound, &str)] = &[
         (
-            closed,
-            end,
+            CLOSED,
+            AT_END,
             "[2024-01-01T00:00:00Z .. 2024-03-01T12:30:00Z]\n",
         ),
         (
-            closed,
-            before_end,
+            CLOSED,
+            BEFORE_END,
             "[2024-01-01T00:00:00Z .. 2024-03-01T12:30:00Z)\n",
         ),
         (
-            open,
-            end,
+            OPEN,
+            AT_END,
             "(2024-01-01T00:00:00Z .. 2024-03-01T12:30:00Z]\n",
         ),
         (
-            open,
-            before_end,
+            OPEN,
+            BEFORE_END,
             "(2024-01-01T00:00:00Z .. 2024-03-01T12:30:00Z)\n",
         ),
         (
-            closed,
-            closed,
+            CLOSED,
+            CLOSED,
             "[2024-01-01T00:00:00Z .. 2024-01-01T00:00:00Z]\n",
         ),
-        (Bound::Inf, before_end, "(-inf .. 2024-03-01T12:30:00Z)\n"),
-        (Bound::Edge, end, "(-edge .. 2024-03-01T12:30:00Z]\n"),
-        (closed, Bound::Inf, "[2024-01-01T00:00:00Z .. inf)\n"),
-        (open, Bound::Edge, "(2024-01-01T00:00:00Z .. edge)\n"),
+        (Bound::Inf, BEFORE_END, "(-inf .. 2024-03-01T12:30:00Z)\n"),
+        (Bound::Edge, AT_END, "(-edge .. 2024-03-01T12:30:00Z]\n"),
+        (CLOSED, Bound::Inf, "[2024-01-01T00:00:00Z .. inf)\n"),
+        (OPEN, Bound::Edge, "(2024-01-01T00:00:00Z .. edge)\n"),
         (Bound::Inf, Bound::Edge, "(-inf .. edge)\n"),
         (Bound::Edge, Bound::Inf, "(-edge .. inf)\n"),
-    ] {
-        let near = found(first, last);
-        assert!(rt; is_calendar_near(near), "{text}");
-        let line = line_near(near, Kind::Spans, Clock::Absolute);
-        assert_eq!(rt; line.bytes(), text.as_bytes(), "{text}");
+    ];
+    for (first, last, text) in ROWS {
+        is_run(&rt, (*first, *last), Kind::Spans, Clock::Absolute, text);
     }
 }
 
+/// The answer is written as this line.
+fn is_answer(rt: &impl Abort, near: Near, text: &str) {
+    assert!(rt; is_calendar_near(near), "{text}");
+    let line = line_near(near, Kind::Moments, Clock::Floating);
+    assert_eq!(rt; line.bytes(), text.as_bytes(), "{text}");
+}
+
 #[test]
-fn other_answers_have_these_lines(rt: HostRuntime) {
-    for (near, text) in [
+fn windows_without_a_run_and_the_edge_have_these_lines(rt: HostRuntime) {
+    const WINDOWS: &[(i64, i64, &str)] = &[
         (
-            none(2_082_758_400, 27_328_320_000),
+            2_082_758_400,
+            27_328_320_000,
             "none 2003-01-01T00:00:00 .. 2403-01-01T00:00:00\n",
         ),
         (
-            none(1_746_036_000, 1_746_036_002),
+            1_746_036_000,
+            1_746_036_002,
             "none 1997-08-31T09:00:00 .. 1997-08-31T09:00:01\n",
         ),
+        (-1, 1, "none 1969-12-31T23:59:59 .. 1970-01-01T00:00:00\n"),
+    ];
+    for (lo, hi, text) in WINDOWS {
+        let (lo, hi) = (Pos(*lo), Pos(*hi));
+        is_answer(&rt, Near::None(Window { lo, hi }), text);
+    }
+    is_answer(&rt, Near::Edge, "edge\n");
+}
+
+#[test]
+fn stops_have_these_lines(rt: HostRuntime) {
+    const STOPS: &[(i64, u32, &str)] = &[
+        (0, 0, "budget 0 0\n"),
+        (-1, 2, "budget -1 2\n"),
+        (-749_161_958_400, 1_024, "budget -749161958400 1024\n"),
         (
-            none(-1, 1),
-            "none 1969-12-31T23:59:59 .. 1970-01-01T00:00:00\n",
-        ),
-        (Near::Edge, "edge\n"),
-        (budget(0, 0), "budget 0 0\n"),
-        (budget(-1, 2), "budget -1 2\n"),
-        (
-            budget(-749_161_958_400, 1_024),
-            "budget -749161958400 1024\n",
-        ),
-        (
-            budget(i64::MIN, u32::MAX),
+            i64::MIN,
+            u32::MAX,
             "budget -9223372036854775808 4294967295\n",
         ),
-    ] {
-        assert!(rt; is_calendar_near(near), "{text}");
-        let line = line_near(near, Kind::Moments, Clock::Floating);
-        assert_eq!(rt; line.bytes(), text.as_bytes(), "{text}");
+    ];
+    for (at, node, text) in STOPS {
+        let at = Pos(*at);
+        is_answer(&rt, Near::Budget(Stop { at, node: *node }), text);
     }
 }
 
@@ -150,16 +158,14 @@ fn is_printable(refusal: Refusal) -> bool
     ensures { result ≡ true → IsPrintable refusal }
 {
     match refusal {
-        Refusal::Settle { at, .. } => in_range(at),
+        Refusal::Settle { at, .. } => in_work(at),
         _ => true,
     }
 }
 
 #[test]
 fn a_refusal_names_its_fault(rt: HostRuntime) {
-    let at = Moment(1_709_164_800);
-    let passed = 20_000_000;
-    for (refusal, text) in [
+    const ROWS: &[(Refusal, &str)] = &[
         (Refusal::Words(0), "refused words 0\n"),
         (Refusal::Unbuilt, "refused unbuilt\n"),
         (Refusal::Long, "refused long\n"),
@@ -191,11 +197,15 @@ fn a_refusal_names_its_fault(rt: HostRuntime) {
         (Refusal::Two, "refused two\n"),
         (Refusal::Clock, "refused clock\n"),
         (
-            Refusal::Settle { passed, at },
+            Refusal::Settle {
+                passed: 20_000_000,
+                at: Moment(1_709_164_800),
+            },
             "refused settle 20000000 2024-02-29T00:00:00\n",
         ),
-    ] {
-        assert!(rt; is_printable(refusal), "{text}");
-        assert_eq!(rt; line_refusal(refusal).bytes(), text.as_bytes(), "{text}");
+    ];
+    for (refusal, text) in ROWS {
+        assert!(rt; is_printable(*refusal), "{text}");
+        assert_eq!(rt; line_refusal(*refusal).bytes(), text.as_bytes(), "{text}");
     }
 }

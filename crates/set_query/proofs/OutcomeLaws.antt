@@ -1,60 +1,81 @@
 -- Words and a text have one outcome.
 use Rattle.std.proofs.Common.{◌≡◌, ◌≢◌, ◌⊎◌, inl, inr, ℕ, ℤ, Bool, true, false, List, sym, ◌∙◌, ap, subst, refl, Option, Some, None, Result, Ok, Err, cond, option_map}
 use Rattle.cert_audit.specs.Lawful.{AreLawful}
-use Rattle.cert_audit.specs.Laws.{WellFormedAreLawful}
+use Rattle.cert_audit.specs.Laws.{FirstUnsettledIsOne, SettledHaveNone, TreesSettleOrNot, WellFormedAreLawful}
 use Rattle.expr_text.specs.Accepted.{IsRead}
 use Rattle.expr_text.specs.Fault.{Fault}
 use Rattle.expr_text.specs.Faults.{fault_of, sort_fault}
 use Rattle.expr_text.specs.Laws.{AcceptedAreWellFormed, AcceptedHaveSorts, ReadingsAreUnique, ReadingsExist}
-use Rattle.expr_text.specs.Printing.{print_program}
+use Rattle.expr_print.specs.Printing.{print_program}
 use Rattle.expr_tree.specs.Members.{is_member}
 use Rattle.expr_tree.specs.Sorts.{sort_of_tree}
 use Rattle.expr_tree.specs.Tree.{Rule, Tree, Trees, meant_of}
+use Rattle.expr_tree.specs.WellFormed.{IsWellFormed}
 use Rattle.expr_tree.specs.declared.sorting.Sort.{Sort}
+use Rattle.ical_rules.specs.declared.outcome.Unsettled.{Unsettled}
 use Rattle.expr_tree.specs.declared.sorting.SortFault.{SortFault}
 use Rattle.expr_tree.specs.declared.tree.Kind.{Kind}
 use Rattle.moment_core.specs.Clocks.{one_clock}
 use Rattle.moment_core.specs.declared.line.Clock.{Clock}
-use Rattle.moment_core.specs.declared.line.Dir.TheVariants.{Fore}
-use Rattle.near_search.specs.Laws.{NextRunsAreUnique, NextRunsExist, NextRunsHoldForEver}
+use Rattle.moment_core.specs.Line.{IsCalendarMoment, position_of}
+use Rattle.moment_core.specs.declared.line.Dir.{Dir}
+use Rattle.moment_core.specs.declared.line.Dir.TheVariants.{Fore, Back}
 use Rattle.phases.specs.Laws.{by_phase, then_phase}
 use Rattle.phases.specs.Phases.{By, IsPhase}
 use Rattle.stored_pair.specs.Meanings.{Entries, Meaning}
+use Rattle.plan_core.specs.Plans.{window_of}
+use Rattle.query_core.specs.Laws.{NeighboursAreUnique, NeighboursExist, NeighboursHoldForEver}
 use Rattle.query_words.specs.Laws.{WordsAreReadOnce, WordsAreRead}
 use Rattle.query_words.specs.Words.{AreRead}
 use Rattle.query_words.specs.declared.queries.Query.{Query}
 use Rattle.query_words.specs.declared.queries.Query.TheVariants.{Near as NearBy, Show}
 use Rattle.query_words.specs.declared.queries.WordsFault.{WordsFault}
+use Rattle.query_words.specs.declared.queries.Neighbour.{Neighbour}
+use Rattle.query_words.specs.declared.queries.Neighbour.TheVariants.{Next, Previous, Current, Closest, Contains}
+use Rattle.report_text.specs.Lines.{test_line}
+use Rattle.span_core.specs.declared.answers.Near.{Near}
+use Rattle.span_core.specs.declared.answers.Stop.{Stop}
+use Rattle.cert_audit.specs.Searches.{test_of}
 use Rattle.report_text.specs.declared.refusals.Refusal.{Refusal}
 use Rattle.report_text.specs.declared.refusals.Refusal.TheVariants as refusals
 use Rattle.set_query.specs.Laws.{OutcomesAreUnique, OutcomesExist, RefusalsAreAlone}
-use Rattle.set_query.specs.Reading.{AreSecondSorts, AreSorts, IsMeant, Reading, OnClock, Passes, Sorts, faulty, on_clock, sets, sets_clock, takes, unless_clock, unless_two, words_clock}
+use Rattle.set_query.specs.Reading.{AreSecondSorts, AreSettledFor, AreSorts, Fits, IsMeant, IsUnsettledFor, Reading, OnClock, Passes, Settles, Sorts, faulty, on_clock, sets, sets_clock, settled, takes, unless_clock, unless_two, unsettled, words_clock}
 use Rattle.set_query.specs.Refusals.{text_refusal, words_refusal}
-use Rattle.set_query.specs.Report.{Outcome, IsInRange, IsOutcome, IsPrinted, IsReply, IsReportOf, IsSearched, answered, asked, bad_words, next, printed, refused, refused_by, replied, stopped, told, window_of}
+use Rattle.set_query.specs.Report.{Outcome, IsInRange, IsOutcome, IsPrinted, IsReply, IsAskedBy, IsReportOf, IsSearched, IsTested, answered, answers, asked, bad_words, printed, refused, refused_by, replied, stops, tested, told}
 use Rattle.set_query.proofs.OutcomeLemmas.{report_not_refused as not_refused}
 use Rattle.set_query.proofs.PreparingLemmas.{asks_in_range}
 
 -- a search has one outcome, stops aside
-one_searched : NextRunsAreUnique → {t : Tree Meaning} {kind : Kind} {clock : Clock} {at : ℤ} {budget : ℕ} (a b : Outcome) → IsSearched t kind clock at budget a → IsSearched t kind clock at budget b → a.status ≢ 3 → b.status ≢ 3 → a ≡ b
-one_searched runs a b (stopped s is not) k d e = absurd (d refl)
-one_searched runs a b (next near is) (stopped s also not) d e = absurd (e refl)
-one_searched runs {t} {kind} {clock} {at} {budget} a b (next near is) (next other also) d e =
-    ap (told kind clock) (runs (is_member t) (window_of t) Fore at near other is.0 also.0)
+one_searched : {found : Near → Type 0} {places : Dir → ℤ → Type 0} {due : Dir → ℤ → ℕ → Stop → Type 0} {kind : Kind} {clock : Clock} {budget : ℕ} → ((x y : Near) → found x → found y → x ≡ y)
+    → (a b : Outcome) → IsSearched found places due kind clock budget a → IsSearched found places due kind clock budget b → a.status ≢ 3 → b.status ≢ 3 → a ≡ b
+one_searched one a b (stops s is not) k d e = absurd (d refl)
+one_searched one a b (answers near is) (stops s also not) d e = absurd (e refl)
+one_searched {found} {places} {due} {kind} {clock} one a b (answers near is) (answers other also) d e = ap (told kind clock) (one near other is also)
+
+one_tested : {member : Bool} (a b : Outcome) → IsTested member a → IsTested member b → a ≡ b
+one_tested a b tested tested = refl
+
+one_asked : NeighboursAreUnique → (t : Tree Meaning) (side : Neighbour) (kind : Kind) (clock : Clock) (at : ℤ) (budget : ℕ) (a b : Outcome) → IsAskedBy t side kind clock at budget a → IsAskedBy t side kind clock at budget b → a.status ≢ 3 → b.status ≢ 3 → a ≡ b
+one_asked runs t Next kind clock at budget a b h k = one_searched (λ x y is also. runs.next (is_member t) (window_of t) Fore at x y is.0 also.0) a b h k
+one_asked runs t Previous kind clock at budget a b h k = one_searched (λ x y is also. runs.next (is_member t) (window_of t) Back at x y is.0 also.0) a b h k
+one_asked runs t Current kind clock at budget a b h k = one_searched (λ x y is also. runs.current (is_member t) (window_of t) at x y is.0 also.0) a b h k
+one_asked runs t Closest kind clock at budget a b h k = one_searched (λ x y is also. runs.closest (is_member t) (window_of t) at x y is.0 also.0) a b h k
+one_asked runs t Contains kind clock at budget a b h k = λ d e. one_tested a b h k
 
 one_printed : {trees : Trees} (a b : Outcome) → IsPrinted trees a → IsPrinted trees b → a ≡ b
 one_printed a b printed printed = refl
 
-one_report : NextRunsAreUnique → (entries : Entries) (query : Query) (reading : Reading) (clock : Clock) (a b : Outcome) → IsReportOf entries query reading clock a → IsReportOf entries query reading clock b → a.status ≢ 3 → b.status ≢ 3 → a ≡ b
+one_report : NeighboursAreUnique → (entries : Entries) (query : Query) (reading : Reading) (clock : Clock) (a b : Outcome) → IsReportOf entries query reading clock a → IsReportOf entries query reading clock b → a.status ≢ 3 → b.status ≢ 3 → a ≡ b
 one_report runs entries Show reading clock a b h k d e = one_printed a b h k
-one_report runs entries (NearBy side at budget) reading clock a b h k d e = one_searched runs a b h k d e
+one_report runs entries (NearBy side at budget) reading clock a b h k d e = one_asked runs (meant_of entries reading.trees.first) side reading.sorts.first.kind clock at.moment.0 budget a b h k d e
 
 -- what is given to a phase behind the words: any text
 abbrev AnyText : List ℕ → Type 0
 AnyText text = Unit {0}
 
--- the rules of the first tree are lawful
+-- the first tree is well formed, and its rules are lawful
 abbrev CanMean : Entries → Reading → Type 0
-CanMean entries reading = AreLawful (meant_of entries reading.trees.first)
+CanMean entries reading = IsWellFormed reading.trees.first × AreLawful (meant_of entries reading.trees.first)
 
 abbrev CanMeanOn : Entries → OnClock → Type 0
 CanMeanOn entries x = CanMean entries x.reading
@@ -90,6 +111,9 @@ pub record Reads : Type 0 where
   pub well_formed : AcceptedAreWellFormed
   pub sorted : AcceptedHaveSorts
   pub lawful : WellFormedAreLawful
+  pub settled : TreesSettleOrNot
+  pub one : FirstUnsettledIsOne
+  pub apart : SettledHaveNone
 
 meant_phase : Reads → (entries : Entries) → IsPhase AnyText IsMeant (CanMean entries)
 meant_phase reads entries = record { some = λ text h. let read = reads.exist text in by_read text read.0 read.1; one = one; gives = gives }
@@ -116,7 +140,7 @@ meant_phase reads entries = record { some = λ text h. let read = reads.exist te
         ap (λ (f : Fault). Err (text_refusal f)) same
 
     gives : (text : List ℕ) (m : Reading) → AnyText text → IsMeant text (Ok m) → CanMean entries m
-    gives text m h (sets _ k are) = reads.lawful entries m.trees.first (reads.well_formed text m.trees k).0
+    gives text m h (sets _ k are) = let formed = (reads.well_formed text m.trees k).0 in (formed, reads.lawful entries m.trees.first formed)
 
 two_phase : (entries : Entries) (query : Query) → IsPhase (CanMean entries) (By (unless_two query)) (CanMean entries)
 two_phase entries query = by_phase (CanMean entries) (CanMean entries) (unless_two query) (λ m n h e. by_number (takes query m.trees.second) m n h e)
@@ -132,13 +156,44 @@ clock_phase entries query = by_phase (CanMean entries) (CanMeanOn entries) (unle
     by_clock m (Some clock) x h e = subst (CanMeanOn entries) (let same : record { reading = m; clock = clock } ≡ x = cc in same) h
     by_clock m None x h e = absurd cc
 
+settle_phase : Reads → (entries : Entries) (query : Query) → IsPhase (CanMeanOn entries) (Settles query) (CanMeanOn entries)
+settle_phase reads entries query = record { some = λ x h. some query x (settles_or_not query x h.0); one = one query; gives = λ x y h s. subst (CanMeanOn entries) (kept x y s) h }
+  where
+    -- the counts are settled, or one is the first that isn't
+    settles_or_not : (q : Query) (x : OnClock) → IsWellFormed x.reading.trees.first → AreSettledFor q x.reading.trees ⊎ ((u : Unsettled) × IsUnsettledFor q x.reading.trees u)
+    settles_or_not Show x h = inl tt
+    settles_or_not (NearBy side at budget) x h = reads.settled x.reading.trees.first h
+
+    some : (q : Query) (x : OnClock) → AreSettledFor q x.reading.trees ⊎ ((u : Unsettled) × IsUnsettledFor q x.reading.trees u) → (r : Result OnClock Refusal) × Settles q x r
+    some q x (inl are) = (Ok x, settled are)
+    some q x (inr none) = (Err (refusals.Settle none.0.passed none.0.at), unsettled none.0 none.1)
+
+    apart : (q : Query) (x : OnClock) (u : Unsettled) → AreSettledFor q x.reading.trees → IsUnsettledFor q x.reading.trees u → ⊥
+    apart Show x u are none = none
+    apart (NearBy side at budget) x u are none = reads.apart x.reading.trees.first u are none
+
+    same_unsettled : (q : Query) (x : OnClock) (u v : Unsettled) → IsUnsettledFor q x.reading.trees u → IsUnsettledFor q x.reading.trees v → u ≡ v
+    same_unsettled Show x u v h k = absurd h
+    same_unsettled (NearBy side at budget) x u v h k = reads.one x.reading.trees.first u v h k
+
+    one : (q : Query) (x : OnClock) (r s : Result OnClock Refusal) → Settles q x r → Settles q x s → r ≡ s
+    one q x r s (settled are) (settled also) = refl
+    one q x r s (settled are) (unsettled u none) = absurd (apart q x u are none)
+    one q x r s (unsettled u none) (settled are) = absurd (apart q x u are none)
+    one q x r s (unsettled u h) (unsettled v k) = ap (λ (w : Unsettled). Err (refusals.Settle w.passed w.at)) (same_unsettled q x u v h k)
+
+    kept : (x y : OnClock) → Settles query x (Ok y) → x ≡ y
+    kept x y (settled are) = refl
+
 all_phases : Reads → (entries : Entries) (query : Query) → IsPhase AnyText (Passes query) (CanMeanOn entries)
 all_phases reads entries query =
     then_phase IsMeant _ AnyText (CanMean entries) (CanMeanOn entries) (meant_phase reads entries)
+    (then_phase (Fits query) (Settles query) (CanMean entries) (CanMeanOn entries) (CanMeanOn entries)
     (then_phase (By (unless_two query)) (By (unless_clock query)) (CanMean entries) (CanMean entries) (CanMeanOn entries) (two_phase entries query) (clock_phase entries query))
+    (settle_phase reads entries query))
 
 -- a text has one outcome for a query, and a refusal is alone
-one_reply : Reads → NextRunsAreUnique → (entries : Entries) (query : Query) (text : List ℕ) (a b : Outcome) → IsReply entries query text a → IsReply entries query text b → (a.status ≡ 2) ⊎ ((a.status ≢ 3) × (b.status ≢ 3)) → a ≡ b
+one_reply : Reads → NeighboursAreUnique → (entries : Entries) (query : Query) (text : List ℕ) (a b : Outcome) → IsReply entries query text a → IsReply entries query text b → (a.status ≡ 2) ⊎ ((a.status ≢ 3) × (b.status ≢ 3)) → a ≡ b
 one_reply reads runs entries query text a b (refused r h) (refused s k) d =
     let both : Err r ≡ Err s = (all_phases reads entries query).one text (Err r) (Err s) h k in
     let same : r ≡ s = cc in
@@ -154,7 +209,7 @@ one_reply reads runs entries query text a b (replied x o h report) (replied y p 
       | inr free ↦ one_report runs entries query x.reading x.clock a b report also free.0 free.1
     ]
 
-one_outcome : Reads → WordsAreReadOnce → NextRunsAreUnique → (entries : Entries) (words : List (List ℕ)) (text : List ℕ) (a b : Outcome) → IsOutcome entries words text a → IsOutcome entries words text b → (a.status ≡ 2) ⊎ ((a.status ≢ 3) × (b.status ≢ 3)) → a ≡ b
+one_outcome : Reads → WordsAreReadOnce → NeighboursAreUnique → (entries : Entries) (words : List (List ℕ)) (text : List ℕ) (a b : Outcome) → IsOutcome entries words text a → IsOutcome entries words text b → (a.status ≡ 2) ⊎ ((a.status ≢ 3) × (b.status ≢ 3)) → a ≡ b
 one_outcome reads unique runs entries words text a b (bad_words fault r) (bad_words other k) d =
     let both = unique words (Err fault) (Err other) r k in
     let same : fault ≡ other = cc in
@@ -166,29 +221,42 @@ one_outcome reads unique runs entries words text a b (asked query o asks r) (ask
     let same : other ≡ query = cc in
     one_reply reads runs entries query text a b r (subst (λ (q : Query). IsReply entries q text b) same k) d
 
-pub outcomes_are_unique : Reads → WordsAreReadOnce → NextRunsAreUnique → OutcomesAreUnique
+pub outcomes_are_unique : Reads → WordsAreReadOnce → NeighboursAreUnique → OutcomesAreUnique
 outcomes_are_unique reads unique runs entries words text a b h k d e = one_outcome reads unique runs entries words text a b h k (inr (d, e))
 
-pub refusals_are_alone : Reads → WordsAreReadOnce → NextRunsAreUnique → RefusalsAreAlone
+pub refusals_are_alone : Reads → WordsAreReadOnce → NeighboursAreUnique → RefusalsAreAlone
 refusals_are_alone reads unique runs entries words text a b h k two = one_outcome reads unique runs entries words text a b h k (inl two)
 
+-- each command asks something that is told
+some_asked : NeighboursExist → NeighboursHoldForEver → (t : Tree Meaning) (side : Neighbour) (kind : Kind) (clock : Clock) (at : ℤ) (budget : ℕ) → IsCalendarMoment at → AreLawful t → (o : Outcome) × IsAskedBy t side kind clock at budget o
+some_asked runs hold t Next kind clock at budget range h =
+    let near = runs.next (is_member t) (window_of t) Fore at range in
+    (told kind clock near.0, answers near.0 (near.1, hold.next t Fore at near.0 h range near.1))
+some_asked runs hold t Previous kind clock at budget range h =
+    let near = runs.next (is_member t) (window_of t) Back at range in
+    (told kind clock near.0, answers near.0 (near.1, hold.next t Back at near.0 h range near.1))
+some_asked runs hold t Current kind clock at budget range h =
+    let near = runs.current (is_member t) (window_of t) at range in
+    (told kind clock near.0, answers near.0 (near.1, hold.current t at near.0 h range near.1))
+some_asked runs hold t Closest kind clock at budget range h =
+    let near = runs.closest (is_member t) (window_of t) at range in
+    (told kind clock near.0, answers near.0 (near.1, hold.closest t at near.0 h range near.1))
+some_asked runs hold t Contains kind clock at budget range h = (record { status = 0; bytes = test_line (test_of (is_member t (position_of at))) }, tested)
+
 -- some report is made of a reading
-some_report : NextRunsExist → NextRunsHoldForEver → (entries : Entries) (query : Query) (reading : Reading) (clock : Clock) → IsInRange query → CanMean entries reading → (o : Outcome) × IsReportOf entries query reading clock o
+some_report : NeighboursExist → NeighboursHoldForEver → (entries : Entries) (query : Query) (reading : Reading) (clock : Clock) → IsInRange query → CanMean entries reading → (o : Outcome) × IsReportOf entries query reading clock o
 some_report runs hold entries Show reading clock range h = (answered (print_program reading.trees), printed)
 some_report runs hold entries (NearBy side at budget) reading clock range h =
-    let tree = meant_of entries reading.trees.first in
-    let near = runs (is_member tree) (window_of tree) Fore at.moment.0 range.0 in
-    let for_ever = hold tree Fore at.moment.0 near.0 h range.0 near.1 in
-    (told reading.sorts.first.kind clock near.0, next near.0 (near.1, for_ever))
+    some_asked runs hold (meant_of entries reading.trees.first) side reading.sorts.first.kind clock at.moment.0 budget range.0 h.1
 
-some_reply : Reads → NextRunsExist → NextRunsHoldForEver → (entries : Entries) (query : Query) (text : List ℕ) → IsInRange query → (o : Outcome) × IsReply entries query text o
+some_reply : Reads → NeighboursExist → NeighboursHoldForEver → (entries : Entries) (query : Query) (text : List ℕ) → IsInRange query → (o : Outcome) × IsReply entries query text o
 some_reply reads runs hold entries query text range = let x = (all_phases reads entries query).some text tt in by_result x.0 x.1
   where
     by_result : (r : Result OnClock Refusal) → Passes query text r → (o : Outcome) × IsReply entries query text o
     by_result (Err refusal) h = (refused_by refusal, refused refusal h)
     by_result (Ok x) h = let o = some_report runs hold entries query x.reading x.clock range ((all_phases reads entries query).gives text x tt h) in (o.0, replied x o.0 h o.1)
 
-pub outcomes_exist : Reads → WordsAreRead → NextRunsExist → NextRunsHoldForEver → OutcomesExist
+pub outcomes_exist : Reads → WordsAreRead → NeighboursExist → NeighboursHoldForEver → OutcomesExist
 outcomes_exist reads exist runs hold entries words text = by_answer (exist words).0 (exist words).1
   where
     by_answer : (answer : Result Query WordsFault) → AreRead words answer → (o : Outcome) × IsOutcome entries words text o

@@ -20,22 +20,30 @@ use Rattle.query_words.specs.Words.{Asks, IsRefused}
 use Rattle.query_words.specs.declared.queries.Query.{Query}
 use Rattle.query_words.specs.declared.queries.Query.TheVariants.{Near as NearBy, Show}
 use Rattle.query_words.specs.declared.queries.WordsFault.{WordsFault}
+use Rattle.query_words.specs.declared.queries.Neighbour.{Neighbour}
+use Rattle.query_words.specs.declared.queries.Neighbour.TheVariants.{Next, Previous, Current, Closest, Contains}
 use Rattle.report_text.specs.declared.refusals.Refusal.{Refusal}
 use Rattle.report_text.specs.declared.refusals.Refusal.TheVariants as refusals
 use Rattle.expr_tree.specs.Sorts.{sort_of_tree}
 use Rattle.expr_tree.specs.Laws.{SortedStayInReach}
 use Rattle.expr_tree.specs.declared.sorting.Sort.{Sort}
-use Rattle.near_search.specs.Laws.{AmpleFindsNext, EnoughFindsNext}
+use Rattle.query_core.specs.Laws.{AmpleFindsNeighbours, EnoughFindsNeighbours}
 use Rattle.moment_core.specs.Line.{IsCalendarMoment}
-use Rattle.moment_core.specs.declared.line.Dir.TheVariants.{Fore}
+use Rattle.moment_core.specs.declared.line.Dir.{Dir}
+use Rattle.moment_core.specs.declared.line.Dir.TheVariants.{Fore, Back}
 use Rattle.span_core.specs.declared.answers.Near.{Near}
+use Rattle.span_core.specs.declared.answers.Stop.{Stop}
+use Rattle.run_search.specs.Places.{IsAmpleAt}
+use Rattle.query_core.specs.Neighbours.{IsClosestRun, IsCurrentRun, IsNextRun, IsRunBeside, closer_of}
+use Rattle.expr_tree.specs.Members.{is_member}
+use Rattle.plan_core.specs.Plans.{window_of}
 use Rattle.span_core.specs.declared.answers.Near.TheVariants as nears
 use Rattle.outside_core.specs.declared.writes.Sink.{Ghosts as Sink}
 use Rattle.set_query.specs.Effects.{IsDone, IsReported, IsWritten, IsOutcomeOf, Answers, BreaksOff, IsFront, RanOut, WriteFailed}
 use Rattle.set_query.specs.declared.reading.TheConstants.{ROOM}
-use Rattle.set_query.specs.Reading.{AreSorts, IsMeant, Reading, OnClock, Passes, faulty, on_clock, sets, sets_clock, takes, words_clock}
+use Rattle.set_query.specs.Reading.{AreSorts, IsMeant, Reading, OnClock, Passes, Settles, faulty, on_clock, sets, sets_clock, settled, takes, words_clock}
 use Rattle.set_query.specs.Refusals.{words_refusal}
-use Rattle.set_query.specs.Report.{Outcome, HasAmpleBudget, IsAmpleOf, IsEnough, IsInRange, IsOutcome, IsPrinted, IsReply, IsReportOf, IsSearched, asked, bad_words, next, printed, refused, refused_by, replied, status_of, stopped}
+use Rattle.set_query.specs.Report.{Outcome, HasAmpleBudget, IsAmpleBy, IsAskedBy, IsEnough, IsFoundBy, IsInRange, IsOutcome, IsPrinted, IsReply, IsReportOf, IsSearched, IsTested, answers, asked, bad_words, printed, refused, refused_by, replied, status_of, stops, tested}
 use Rattle.set_query.proofs.PreparingLemmas.{asks_in_range}
 
 take-short : (text : List ℕ) (n : ℕ) → length text ≤ n → take n text ≡ text
@@ -103,31 +111,57 @@ near_done (nears.None w) = inl refl
 near_done nears.Edge = inl refl
 near_done (nears.Budget s) = inr (inr refl)
 
-searched_done : {t : Tree Meaning} {kind : Kind} {clock : Clock} {at : ℤ} {budget : ℕ} {o : Outcome} → IsSearched t kind clock at budget o → IsDone o.status
-searched_done (next near is) = near_done near
-searched_done (stopped s is not) = inr (inr refl)
-
-printed_done : {trees : Trees} {o : Outcome} → IsPrinted trees o → o.status ≡ 0
-printed_done printed = refl
-
-report_done : (entries : Entries) (query : Query) (reading : Reading) (clock : Clock) (o : Outcome) → IsReportOf entries query reading clock o → IsDone o.status
-report_done entries Show reading clock o h = inl (printed_done h)
-report_done entries (NearBy side at budget) reading clock o h = searched_done h
-
 near_not_refused : (near : Near) → status_of near ≡ 2 → ⊥
 near_not_refused (nears.Found run) e = absurd (omega (arith, e))
 near_not_refused (nears.None w) e = absurd (omega (arith, e))
 near_not_refused nears.Edge e = absurd (omega (arith, e))
 near_not_refused (nears.Budget s) e = absurd (omega (arith, e))
 
-searched_not_refused : {t : Tree Meaning} {kind : Kind} {clock : Clock} {at : ℤ} {budget : ℕ} {o : Outcome} → IsSearched t kind clock at budget o → o.status ≡ 2 → ⊥
-searched_not_refused (next near is) e = near_not_refused near e
-searched_not_refused (stopped s is not) e = absurd (omega (arith, e))
+module _ {found : Near → Type 0} {places : Dir → ℤ → Type 0} {due : Dir → ℤ → ℕ → Stop → Type 0} {kind : Kind} {clock : Clock} {budget : ℕ} where
+  searched_done : {o : Outcome} → IsSearched found places due kind clock budget o → IsDone o.status
+  searched_done (answers near is) = near_done near
+  searched_done (stops s is not) = inr (inr refl)
+
+  searched_not_refused : {o : Outcome} → IsSearched found places due kind clock budget o → o.status ≡ 2 → ⊥
+  searched_not_refused (answers near is) e = near_not_refused near e
+  searched_not_refused (stops s is not) e = absurd (omega (arith, e))
+
+  -- with an ample budget no search stops
+  searched_never_stops : ((s : Stop) → found (nears.Budget s) → ⊥) → {o : Outcome} → IsSearched found places due kind clock budget o → o.status ≡ 3 → IsAmpleAt places due budget → ⊥
+  searched_never_stops none (answers (nears.Found run) is) e ample = absurd (omega (arith, e))
+  searched_never_stops none (answers (nears.None w) is) e ample = absurd (omega (arith, e))
+  searched_never_stops none (answers nears.Edge is) e ample = absurd (omega (arith, e))
+  searched_never_stops none (answers (nears.Budget s) is) e ample = none s is
+  searched_never_stops none (stops s is not) e ample = not ample
+
+tested_done : {member : Bool} {o : Outcome} → IsTested member o → o.status ≡ 0
+tested_done tested = refl
+
+asked_done : (t : Tree Meaning) (side : Neighbour) (kind : Kind) (clock : Clock) (at : ℤ) (budget : ℕ) (o : Outcome) → IsAskedBy t side kind clock at budget o → IsDone o.status
+asked_done t Next kind clock at budget o h = searched_done h
+asked_done t Previous kind clock at budget o h = searched_done h
+asked_done t Current kind clock at budget o h = searched_done h
+asked_done t Closest kind clock at budget o h = searched_done h
+asked_done t Contains kind clock at budget o h = inl (tested_done h)
+
+asked_not_refused : (t : Tree Meaning) (side : Neighbour) (kind : Kind) (clock : Clock) (at : ℤ) (budget : ℕ) (o : Outcome) → IsAskedBy t side kind clock at budget o → o.status ≡ 2 → ⊥
+asked_not_refused t Next kind clock at budget o h e = searched_not_refused h e
+asked_not_refused t Previous kind clock at budget o h e = searched_not_refused h e
+asked_not_refused t Current kind clock at budget o h e = searched_not_refused h e
+asked_not_refused t Closest kind clock at budget o h e = searched_not_refused h e
+asked_not_refused t Contains kind clock at budget o h e = let zero = tested_done h in absurd (omega (arith, e, zero))
+
+printed_done : {trees : Trees} {o : Outcome} → IsPrinted trees o → o.status ≡ 0
+printed_done printed = refl
+
+report_done : (entries : Entries) (query : Query) (reading : Reading) (clock : Clock) (o : Outcome) → IsReportOf entries query reading clock o → IsDone o.status
+report_done entries Show reading clock o h = inl (printed_done h)
+report_done entries (NearBy side at budget) reading clock o h = asked_done (meant_of entries reading.trees.first) side reading.sorts.first.kind clock at.moment.0 budget o h
 
 -- a report is no refusal
 pub report_not_refused : (entries : Entries) (query : Query) (reading : Reading) (clock : Clock) (o : Outcome) → IsReportOf entries query reading clock o → o.status ≡ 2 → ⊥
 report_not_refused entries Show reading clock o h e = let zero = printed_done h in absurd (omega (arith, e, zero))
-report_not_refused entries (NearBy side at budget) reading clock o h e = searched_not_refused h e
+report_not_refused entries (NearBy side at budget) reading clock o h e = asked_not_refused (meant_of entries reading.trees.first) side reading.sorts.first.kind clock at.moment.0 budget o h e
 
 reply_done : {query : Query} {text : List ℕ} {entries : Entries} {o : Outcome} → IsReply entries query text o → IsDone o.status
 reply_done (refused refusal h) = inr (inl refl)
@@ -137,31 +171,69 @@ status_done : {words : List (List ℕ)} {text : List ℕ} {entries : Entries} {o
 status_done (bad_words fault r) = inr (inl refl)
 status_done (asked query o asks r) = reply_done r
 
--- with an ample budget no search stops
-never_stops : {t : Tree Meaning} {kind : Kind} {clock : Clock} {at : ℤ} {budget : ℕ} {o : Outcome} → IsSearched t kind clock at budget o → o.status ≡ 3 → IsAmpleOf t at budget → ⊥
-never_stops (next (nears.Found run) is) e ample = absurd (omega (arith, e))
-never_stops (next (nears.None w) is) e ample = absurd (omega (arith, e))
-never_stops (next nears.Edge is) e ample = absurd (omega (arith, e))
-never_stops (next (nears.Budget s) is) e ample = is.0
-never_stops (stopped s is not) e ample = not ample
+-- no answer is a stop
+no_current_stop : (t : Tree Meaning) (at : ℤ) (s : Stop) → IsCurrentRun (is_member t) (window_of t) at (nears.Budget s) → ⊥
+no_current_stop t at s (inl around) = around.1
+no_current_stop t at s (inr past) = past.1
+
+no_closer_stop : (t : Tree Meaning) (at : ℤ) (s : Stop) (before after : Near) → IsNextRun (is_member t) (window_of t) Back at before → IsNextRun (is_member t) (window_of t) Fore at after → nears.Budget s ≡ closer_of at before after → ⊥
+no_closer_stop t at s (nears.Budget x) after h k e = h
+no_closer_stop t at s before (nears.Budget x) h k e = k
+no_closer_stop t at s (nears.Found x) (nears.Found y) h k e = absurd cc
+no_closer_stop t at s (nears.Found x) (nears.None w) h k e = absurd cc
+no_closer_stop t at s (nears.Found x) nears.Edge h k e = absurd cc
+no_closer_stop t at s (nears.None w) (nears.Found y) h k e = absurd cc
+no_closer_stop t at s (nears.None w) (nears.None v) h k e = absurd cc
+no_closer_stop t at s (nears.None w) nears.Edge h k e = absurd cc
+no_closer_stop t at s nears.Edge (nears.Found y) h k e = absurd cc
+no_closer_stop t at s nears.Edge (nears.None w) h k e = absurd cc
+no_closer_stop t at s nears.Edge nears.Edge h k e = absurd cc
+
+no_closest_stop : (t : Tree Meaning) (at : ℤ) (s : Stop) → IsClosestRun (is_member t) (window_of t) at (nears.Budget s) → ⊥
+no_closest_stop t at s (inl around) = around.1
+no_closest_stop t at s (inr beside) = let x = beside.1 in no_closer_stop t at s x.0 x.1 x.2 x.3 x.4
+
+no_stop : (t : Tree Meaning) (side : Neighbour) (at : ℤ) (s : Stop) → IsFoundBy t side at (nears.Budget s) → ⊥
+no_stop t Next at s h = h.0
+no_stop t Previous at s h = h.0
+no_stop t Current at s h = no_current_stop t at s h.0
+no_stop t Closest at s h = no_closest_stop t at s h.0
+no_stop t Contains at s h = h
+
+never_stops : (t : Tree Meaning) (side : Neighbour) (kind : Kind) (clock : Clock) (at : ℤ) (budget : ℕ) (o : Outcome) → IsAskedBy t side kind clock at budget o → o.status ≡ 3 → IsAmpleBy t side at budget → ⊥
+never_stops t Next kind clock at budget o h e ample = searched_never_stops (no_stop t Next at) h e ample
+never_stops t Previous kind clock at budget o h e ample = searched_never_stops (no_stop t Previous at) h e ample
+never_stops t Current kind clock at budget o h e ample = searched_never_stops (no_stop t Current at) h e ample
+never_stops t Closest kind clock at budget o h e ample = searched_never_stops (no_stop t Closest at) h e ample
+never_stops t Contains kind clock at budget o h e ample = let zero = tested_done h in absurd (omega (arith, e, zero))
 
 -- a budget that is enough stops no search, for a tree with a sort
-never_due : EnoughFindsNext → AmpleFindsNext → SortedStayInReach → (entries : Entries) (t : Tree Rule) (sort : Sort) (at : ℤ) (budget : ℕ) → sort_of_tree t ≡ Ok sort → IsCalendarMoment at → IsEnough (meant_of entries t) at budget → IsAmpleOf (meant_of entries t) at budget
-never_due enough finds reach entries t sort at budget sorted here (inl above) = enough (meant_of entries t) Fore budget at here above
-never_due enough finds reach entries t sort at budget sorted here (inr ample) = finds (meant_of entries t) Fore budget at (reach entries t sort sorted) here ample
+never_due : EnoughFindsNeighbours → AmpleFindsNeighbours → SortedStayInReach → (entries : Entries) (t : Tree Rule) (side : Neighbour) (sort : Sort) (at : ℤ) (budget : ℕ) → sort_of_tree t ≡ Ok sort → IsCalendarMoment at → IsEnough (meant_of entries t) side at budget → IsAmpleBy (meant_of entries t) side at budget
+never_due enough finds reach entries t Next sort at budget sorted here (inl above) = enough.next (meant_of entries t) Fore budget at here above
+never_due enough finds reach entries t Next sort at budget sorted here (inr ample) = finds.next (meant_of entries t) Fore budget at (reach entries t sort sorted) here ample
+never_due enough finds reach entries t Previous sort at budget sorted here (inl above) = enough.next (meant_of entries t) Back budget at here above
+never_due enough finds reach entries t Previous sort at budget sorted here (inr ample) = finds.next (meant_of entries t) Back budget at (reach entries t sort sorted) here ample
+never_due enough finds reach entries t Current sort at budget sorted here (inl above) = enough.current (meant_of entries t) budget at here above
+never_due enough finds reach entries t Current sort at budget sorted here (inr ample) = finds.current (meant_of entries t) budget at (reach entries t sort sorted) here ample
+never_due enough finds reach entries t Closest sort at budget sorted here (inl above) = enough.closest (meant_of entries t) budget at here above
+never_due enough finds reach entries t Closest sort at budget sorted here (inr ample) = finds.closest (meant_of entries t) budget at (reach entries t sort sorted) here ample
+never_due enough finds reach entries t Contains sort at budget sorted here h = λ dir place none. absurd none
 
 -- no phase behind the text's own changes what it is read as
 pub reading_kept : (query : Query) (text : List ℕ) (x : OnClock) → Passes query text (Ok x) → IsMeant text (Ok x.reading)
-reading_kept query text x (goes_on m _ meant (goes_on n _ two clock)) =
-    subst (λ (k : Reading). IsMeant text (Ok k)) (kept_two m n (takes query m.trees.second) two ∙ kept_clock n (one_clock (sets_clock n.sorts) (words_clock query)) clock) meant
+reading_kept query text x (goes_on m _ meant (goes_on y _ (goes_on n _ two clock) settles)) =
+    subst (λ (k : Reading). IsMeant text (Ok k)) (kept_two m n (takes query m.trees.second) two ∙ kept_clock n y (one_clock (sets_clock n.sorts) (words_clock query)) clock ∙ ap (λ (z : OnClock). z.reading) (kept_settled y x settles)) meant
   where
     kept_two : (m n : Reading) (b : Bool) → Ok n ≡ cond b (Ok m) (Err refusals.Two) → m ≡ n
     kept_two m n true e = cc
     kept_two m n false e = absurd cc
 
-    kept_clock : (m : Reading) (o : Option Clock) → Ok x ≡ on_clock m o → m ≡ x.reading
-    kept_clock m None e = absurd cc
-    kept_clock m (Some clock) e = ap (λ (y : OnClock). y.reading) (let same : record { reading = m; clock = clock } ≡ x = cc in same)
+    kept_clock : (m : Reading) (y : OnClock) (o : Option Clock) → Ok y ≡ on_clock m o → m ≡ y.reading
+    kept_clock m y None e = absurd cc
+    kept_clock m y (Some clock) e = ap (λ (z : OnClock). z.reading) (let same : record { reading = m; clock = clock } ≡ y = cc in same)
+
+    kept_settled : (y z : OnClock) → Settles query y (Ok z) → y ≡ z
+    kept_settled y z (settled are) = refl
 
 -- sets are the text's trees with their sorts
 record HasTrees (text : List ℕ) (reading : Reading) : Type 0 where
@@ -171,23 +243,26 @@ record HasTrees (text : List ℕ) (reading : Reading) : Type 0 where
 meant_trees : (text : List ℕ) (reading other : Reading) → other ≡ reading → IsMeant text (Ok other) → HasTrees text reading
 meant_trees text reading other e (sets _ h are) = subst (HasTrees text) e (record { read = h; sorted = are })
 
-report_stops : {entries : Entries} → Reads → EnoughFindsNext → AmpleFindsNext → SortedStayInReach → (text : List ℕ) (query : Query) (reading : Reading) (clock : Clock) (o : Outcome) → IsInRange query → IsMeant text (Ok reading) → IsReportOf entries query reading clock o → o.status ≡ 3 → HasAmpleBudget entries text query → ⊥
+report_stops : {entries : Entries} → Reads → EnoughFindsNeighbours → AmpleFindsNeighbours → SortedStayInReach → (text : List ℕ) (query : Query) (reading : Reading) (clock : Clock) (o : Outcome) → IsInRange query → IsMeant text (Ok reading) → IsReportOf entries query reading clock o → o.status ≡ 3 → HasAmpleBudget entries text query → ⊥
 report_stops {entries} reads above finds reach text Show reading clock o within meant h e ample = let zero = printed_done h in absurd (omega (arith, e, zero))
 report_stops {entries} reads above finds reach text (NearBy side at budget) reading clock o within meant h e ample =
     let asks : NearBy side at budget ≡ NearBy ample.side ample.at ample.budget = ample.asks in
     let same_at : ample.at ≡ at = cc in
     let same_budget : ample.budget ≡ budget = cc in
+    let same_side : ample.side ≡ side = cc in
     let has = meant_trees text reading reading refl meant in
     let both : Ok ample.trees ≡ Ok reading.trees = reads.unique text (Ok ample.trees) (Ok reading.trees) ample.read has.read in
     let same : ample.trees ≡ reading.trees = cc in
-    let enough = subst (λ b. IsEnough (meant_of entries reading.trees.first) at.moment.0 b) same_budget (subst (λ (s : Stamp). IsEnough (meant_of entries reading.trees.first) s.moment.0 ample.budget) same_at (subst (λ (t : Trees). IsEnough (meant_of entries t.first) ample.at.moment.0 ample.budget) same ample.ample)) in
-    never_stops h e (never_due above finds reach entries reading.trees.first reading.sorts.first at.moment.0 budget has.sorted.0 within.0 enough)
+    let P : Neighbour → Stamp → ℕ → Trees → Type 0 = λ n s b t. IsEnough (meant_of entries t.first) n s.moment.0 b in
+    let enough : P side at budget reading.trees = subst (λ t. P side at budget t) same (subst (λ b. P side at b ample.trees) same_budget (subst (λ s. P side s ample.budget ample.trees) same_at (subst (λ n. P n ample.at ample.budget ample.trees) same_side ample.ample))) in
+    let tree = meant_of entries reading.trees.first in
+    never_stops tree side reading.sorts.first.kind clock at.moment.0 budget o h e (never_due above finds reach entries reading.trees.first side reading.sorts.first at.moment.0 budget has.sorted.0 within.0 enough)
 
-reply_stops : {entries : Entries} → Reads → EnoughFindsNext → AmpleFindsNext → SortedStayInReach → (text : List ℕ) (query : Query) (o : Outcome) → IsInRange query → IsReply entries query text o → o.status ≡ 3 → HasAmpleBudget entries text query → ⊥
+reply_stops : {entries : Entries} → Reads → EnoughFindsNeighbours → AmpleFindsNeighbours → SortedStayInReach → (text : List ℕ) (query : Query) (o : Outcome) → IsInRange query → IsReply entries query text o → o.status ≡ 3 → HasAmpleBudget entries text query → ⊥
 reply_stops reads above finds reach text query o within (refused refusal h) e ample = absurd (omega (arith, e))
 reply_stops reads above finds reach text query o within (replied x o_r h report) e ample = report_stops reads above finds reach text query x.reading x.clock o within (reading_kept query text x h) report e ample
 
-outcome_stops : {entries : Entries} → Reads → WordsAreReadOnce → EnoughFindsNext → AmpleFindsNext → SortedStayInReach → (words : List (List ℕ)) (text : List ℕ) (query : Query) (o : Outcome) → IsOutcome entries words text o → Asks words query → HasAmpleBudget entries text query → o.status ≡ 3 → ⊥
+outcome_stops : {entries : Entries} → Reads → WordsAreReadOnce → EnoughFindsNeighbours → AmpleFindsNeighbours → SortedStayInReach → (words : List (List ℕ)) (text : List ℕ) (query : Query) (o : Outcome) → IsOutcome entries words text o → Asks words query → HasAmpleBudget entries text query → o.status ≡ 3 → ⊥
 outcome_stops {entries} reads unique above finds reach words text query o (bad_words fault r) asks ample e = absurd (omega (arith, e))
 outcome_stops {entries} reads unique above finds reach words text query o (asked query_r o_r asks_r r) asks ample e =
     let both = unique words (Ok query_r) (Ok query) asks_r asks in
@@ -281,7 +356,7 @@ module _ {K : Type 0} (sink : Sink K) (old new : K) (entries : Entries) (words :
       let a = ends_done e (inr (inr three)) in
       read_out reads words left rest bytes a.outcome front a.of_words (λ two_s. let is = a.status_is in absurd (omega (arith, three, is, two_s)))
 
-pub ends_ample : Reads → WordsAreReadOnce → EnoughFindsNext → AmpleFindsNext → SortedStayInReach → {K : Type 0} (sink : Sink K) (old new : K) (entries : Entries) (words : List (List ℕ)) (left : Option (List ℕ)) (status : ℕ) (query : Query) → Asks words query → Ends sink old new entries words left status → IfSome left (λ text. HasAmpleBudget entries text query → status ≢ 3)
+pub ends_ample : Reads → WordsAreReadOnce → EnoughFindsNeighbours → AmpleFindsNeighbours → SortedStayInReach → {K : Type 0} (sink : Sink K) (old new : K) (entries : Entries) (words : List (List ℕ)) (left : Option (List ℕ)) (status : ℕ) (query : Query) → Asks words query → Ends sink old new entries words left status → IfSome left (λ text. HasAmpleBudget entries text query → status ≢ 3)
 ends_ample reads unique above finds reach sink old new entries words None status query asks e = tt
 ends_ample reads unique above finds reach sink old new entries words (Some text) status query asks e = λ ample three.
     let a = ends_done sink old new entries words (Some text) status e (inr (inr three)) in

@@ -1,24 +1,27 @@
 -- From what is prepared to the outcome.
 use Rattle.std.proofs.Common.{◌≡◌, ◌≤◌, ℕ, ℤ, List, arith, subst, Option, Some, None, option_map, Result, Ok, Err, refl, sym, ap, ◌∙◌, IfSome, true, false, inl, is_ok}
-use Rattle.cert_audit.specs.Due.{IsDue}
 use Rattle.cert_audit.specs.Lowered.{CanBeReady}
+use Rattle.cert_audit.specs.Settling.{IsFaultOf, IsFirstUnsettled}
+use Rattle.cert_audit.specs.declared.lowering.PlanFault.{PlanFault}
+use Rattle.cert_audit.specs.declared.lowering.PlanFault.TheVariants as plans
+use Rattle.ical_rules.specs.declared.outcome.Unsettled.{Unsettled}
+use Rattle.moment_core.specs.Line.{IsWorkingMoment}
 use Rattle.expr_text.specs.Accepted.{IsRead}
 use Rattle.expr_text.specs.Fault.{Fault}
 use Rattle.phases.specs.Phases.{By, fails, goes_on}
-use Rattle.expr_text.specs.Printing.{print_program}
+use Rattle.expr_print.specs.Printing.{print_program}
 use Rattle.report_text.specs.Lines.{with_line_feed}
-use Rattle.moment_core.specs.declared.line.Dir.TheVariants.{Fore}
+use Rattle.moment_core.specs.declared.line.Dir.{Dir}
 use Rattle.expr_text.specs.Sorted.{HasSort, HaveSorts, HasSecondSort, tree_of_set, trees_of_sorted}
 use Rattle.expr_text.specs.declared.sorted.SortedProgram.{SortedProgram}
 use Rattle.expr_text.specs.declared.sorted.SortedSet.{SortedSet}
-use Rattle.expr_tree.specs.Members.{is_member}
-use Rattle.expr_tree.specs.Tree.{Tree, Trees}
+use Rattle.expr_tree.specs.Tree.{Rule, Tree, Trees}
 use Rattle.expr_tree.specs.WellFormed.{IsWellFormed}
 use Rattle.expr_tree.specs.declared.tree.Kind.{Kind}
-use Rattle.moment_core.specs.Line.{position_of}
 use Rattle.moment_core.specs.Clocks.{one_clock}
 use Rattle.moment_core.specs.declared.line.Clock.{Clock}
-use Rattle.near_search.specs.Neighbours.{IsAnswered, IsForEver, IsNextOrStop}
+use Rattle.query_core.specs.Answering.{AnswersOrStops, IsAnswered}
+use Rattle.run_search.specs.Places.{IsAmpleAt}
 use Rattle.query_words.specs.Words.{Asks, SaysBudget, given, by_default}
 use Rattle.query_words.specs.Words as words
 use Rattle.query_words.specs.declared.queries.Query.{Query}
@@ -26,17 +29,18 @@ use Rattle.report_text.specs.Refusals.{IsPrintable}
 use Rattle.report_text.specs.declared.refusals.Refusal.{Refusal}
 use Rattle.report_text.specs.declared.refusals.Refusal.TheVariants as refusals
 use Rattle.span_core.specs.declared.answers.Near.{Near}
+use Rattle.span_core.specs.declared.answers.Stop.{Stop}
 use Rattle.stored_pair.specs.Meanings.{Entries, Meaning}
 use Rattle.span_core.specs.declared.answers.Near.TheVariants as nears
 use Rattle.outside_core.specs.declared.writes.Sink.{Ghosts as Sink}
 use Rattle.set_query.specs.Effects.{IsWritten}
-use Rattle.set_query.specs.Reading.{AreSecondSorts, AreSorts, IsMeant, Reading, OnClock, faulty, on_clock, sets_clock, takes, unless_clock, words_clock}
-use Rattle.set_query.specs.Preparing.{GivesClock, GivesReport, IsUnready, Prepares, clocked, reading_of, sort_of_set, sorts_of}
+use Rattle.set_query.specs.Reading.{AreSecondSorts, AreSorts, IsMeant, IsUnsettledFor, OnClock, Reading, Settles, faulty, on_clock, sets_clock, takes, unless_clock, unsettled, words_clock}
+use Rattle.set_query.specs.Preparing.{GivesClock, GivesReport, IsUnready, Prepares, clocked, on, reading_of, sort_of_set, sorts_of, unready_of}
 use Rattle.set_query.specs.declared.preparing.Report.{Report}
 use Rattle.set_query.specs.declared.preparing.Unready.{Unready}
 use Rattle.set_query.specs.declared.preparing.Unready.TheVariants as unready
 use Rattle.set_query.specs.Refusals.{text_refusal}
-use Rattle.set_query.specs.Report.{Outcome, IsAmpleOf, IsInRange, IsPrinted, IsSearched, answered, next, printed, refused, replied, stopped, told, window_of}
+use Rattle.set_query.specs.Report.{Outcome, IsInRange, IsPrinted, IsSearched, answered, answers, printed, refused, replied, stops, told}
 
 budget_in_range : (later : List (List ℕ)) (n : ℕ) → SaysBudget later n → 1 ≤ n
 budget_in_range later n (given m s) = s.is.in_range.0
@@ -66,9 +70,10 @@ fault_meant text (Some fault) refusal e h = subst (λ (x : Refusal). IsMeant tex
 -- what is reported of a reading is the reply
 pub replies : (entries : Entries) (query : Query) (text : List ℕ) (reading : Reading) (clock : Clock) (r : Result Report Unready) → IsMeant text (Ok reading) → GivesClock query reading (Ok clock) → GivesReport entries query reading clock r → Prepares entries query text r
 replies entries query text reading clock (Ok report) meant fits h =
-    let x : OnClock = record { reading = reading; clock = clock } in
-    λ o reports. replied x o (goes_on reading (Ok x) meant fits) (h o reports)
-replies entries query text reading clock (Err (unready.Refused refusal)) meant fits h = absurd h
+    let x = on reading clock in
+    λ o reports. replied x o (goes_on reading (Ok x) meant (goes_on x (Ok x) fits h.0)) (h.1 o reports)
+replies entries query text reading clock (Err (unready.Refused refusal)) meant fits h =
+    (h.0, refused refusal (goes_on reading (Err refusal) meant (goes_on (on reading clock) (Err refusal) fits h.1)))
 replies entries query text reading clock (Err unready.Memory) meant fits h = tt
 
 pub not_meant : (entries : Entries) (query : Query) (text : List ℕ) (e : Unready) → IsUnready (λ refusal. IsMeant text (Err refusal)) e → Prepares entries query text (Err e)
@@ -76,14 +81,16 @@ not_meant entries query text (unready.Refused refusal) h = (h.0, refused refusal
 not_meant entries query text unready.Memory h = tt
 
 pub not_fitting : (entries : Entries) (query : Query) (text : List ℕ) (reading : Reading) (refusal : Refusal) → IsPrintable refusal → IsMeant text (Ok reading) → GivesClock query reading (Err refusal) → Prepares entries query text (Err (unready.Refused refusal))
-not_fitting entries query text reading refusal printable meant fits = (printable, refused refusal (goes_on reading (Err refusal) meant fits))
+not_fitting entries query text reading refusal printable meant fits = (printable, refused refusal (goes_on reading (Err refusal) meant (fails refusal fits)))
 
 -- what a search gives is its outcome
-pub searched_by : (t : Tree Meaning) (kind : Kind) (clock : Clock) (at : ℤ) (budget : ℕ) (near : Near) → IsNextOrStop (is_member t) (window_of t) Fore (IsDue t) at budget near → IsForEver (is_member t) Fore (position_of at) near → (IsAmpleOf t at budget → IsAnswered near) → IsSearched t kind clock at budget (told kind clock near)
-searched_by t kind clock at budget (nears.Found run) is for_ever ample = next (nears.Found run) (is, for_ever)
-searched_by t kind clock at budget (nears.None w) is for_ever ample = next (nears.None w) (is, for_ever)
-searched_by t kind clock at budget nears.Edge is for_ever ample = next nears.Edge (is, for_ever)
-searched_by t kind clock at budget (nears.Budget s) is for_ever ample = stopped s is ample
+pub searched_by : (run ever : Near → Type 0) (places : Dir → ℤ → Type 0) (due : Dir → ℤ → ℕ → Stop → Type 0) (kind : Kind) (clock : Clock) (budget : ℕ) (near : Near)
+    → AnswersOrStops run places due budget near → ever near → (IsAmpleAt places due budget → IsAnswered near)
+    → IsSearched (λ n. run n × ever n) places due kind clock budget (told kind clock near)
+searched_by run ever places due kind clock budget (nears.Found r) is holds ample = answers (nears.Found r) (is, holds)
+searched_by run ever places due kind clock budget (nears.None w) is holds ample = answers (nears.None w) (is, holds)
+searched_by run ever places due kind clock budget nears.Edge is holds ample = answers nears.Edge (is, holds)
+searched_by run ever places due kind clock budget (nears.Budget s) is holds ample = stops s is ample
 
 pub written_as : {K : Type 0} {sink : Sink K} {old new : K} {result : ℕ} (o : Outcome) (status : ℕ) (line : List ℕ) → status ≡ o.status → line ≡ o.bytes → IsWritten sink old new (record { status = status; bytes = line }) result → IsWritten sink old new o result
 written_as {K} {sink} {old} {new} {result} o status line same is w =
@@ -108,3 +115,11 @@ pub printed_as : (trees : Trees) (bytes : List ℕ) (o : Outcome) → bytes ≡ 
 printed_as trees bytes o e is =
     let same : o ≡ answered (print_program trees) = is ∙ ap (λ (x : List ℕ). let y : Outcome = record { status = 0; bytes = x } in y) e in
     subst (IsPrinted trees) (sym same) printed
+
+-- where there is no plan, the first count that isn't settled refuses the query, or memory ran out
+pub no_plan : (query : Query) (x : OnClock) (t : Tree Rule) (fault : PlanFault) → ((u : Unsettled) → IsFirstUnsettled t u → IsUnsettledFor query x.reading.trees u)
+    → ((u : Unsettled) → IsFirstUnsettled t u → IsWorkingMoment u.at.0) → IsFaultOf t fault → IsUnready (λ refusal. Settles query x (Err refusal)) (unready_of fault)
+no_plan query x t (plans.Settle passed at) asked working first =
+    let u : Unsettled = record { passed = passed; at = at } in
+    (working u first, unsettled u (asked u first))
+no_plan query x t plans.Memory asked working first = tt

@@ -19,11 +19,13 @@ HasPut sink old new bytes = Puts (sink.taken old) (sink.taken new) bytes
 
 -- of a text that was told as many bytes were read as there is room for, or all, and no others
 abbrev pub ReadsUpTo : ℕ → {S : Type 0} → Source S → S → S → Type 0
-ReadsUpTo room source old new = IfSome (source.left old) (λ text. source.left new ≡ Some (drop room text))
+ReadsUpTo room source old new =
+    IfSome (source.left old) (λ text. source.left new ≡ Some (drop room text))
 
 -- and these bytes are they
 abbrev pub IsFront : ℕ → Option (List ℕ) → Option (List ℕ) → List ℕ → Type 0
-IsFront room before after bytes = IfSome before (λ text. (bytes ≡ take room text) × (after ≡ Some (drop room text)))
+IsFront room before after bytes =
+    IfSome before (λ text. (bytes ≡ take room text) × (after ≡ Some (drop room text)))
 
 abbrev pub ReadsFront : ℕ → {S : Type 0} → Source S → S → S → List ℕ → Type 0
 ReadsFront room source old new bytes = IsFront room (source.left old) (source.left new) bytes
@@ -41,7 +43,8 @@ abbrev pub RanOut : {K : Type 0} → K → K → ℕ → Type 0
 RanOut old new status = (status ≡ 6) × (new ≡ old)
 
 -- one write of the bytes of an outcome: its status, or 5 and the first of the bytes
-pub record IsWritten {K : Type 0} (sink : Sink K) (old new : K) (outcome : Outcome) (status : ℕ) : Type 0 where
+pub record IsWritten {K : Type 0} (sink : Sink K) (old new : K) (outcome : Outcome)
+    (status : ℕ) : Type 0 where
   pub counted : sink.faults old ≤ sink.faults new
   pub either : (status ≡ outcome.status) ⊎ (status ≡ 5)
   pub whole : status ≡ outcome.status → HasPut sink old new outcome.bytes
@@ -49,19 +52,23 @@ pub record IsWritten {K : Type 0} (sink : Sink K) (old new : K) (outcome : Outco
   pub failed : status ≡ 5 → WriteFailed sink old new
 
 -- one write of an outcome that is asked
-pub record IsReported {K : Type 0} (sink : Sink K) (old new : K) (Is : Outcome → Type 0) (status : ℕ) : Type 0 where
+pub record IsReported {K : Type 0} (sink : Sink K) (old new : K) (Is : Outcome → Type 0)
+    (status : ℕ) : Type 0 where
   pub outcome : Outcome
   pub as_asked : Is outcome
   pub written : IsWritten sink old new outcome status
 
--- the outcome of the words over some text, which is the text of the source where the source tells it
-pub record IsOutcomeOf (entries : Entries) (words : List (List ℕ)) (left : Option (List ℕ)) (outcome : Outcome) : Type 0 where
+-- the outcome of the words over some text, which is the text of the source where the source tells
+-- it
+pub record IsOutcomeOf (entries : Entries) (words : List (List ℕ)) (left : Option (List ℕ))
+    (outcome : Outcome) : Type 0 where
   pub text : List ℕ
   pub told : IfSome left (λ known. known ≡ text)
   pub as_asked : IsOutcome entries words text outcome
 
 -- the status is that of the outcome, and all of its bytes were put
-pub record Answers {K : Type 0} (sink : Sink K) (old new : K) (entries : Entries) (words : List (List ℕ))
+pub record Answers {K : Type 0} (sink : Sink K) (old new : K) (entries : Entries)
+    (words : List (List ℕ))
     (left : Option (List ℕ)) (status : ℕ) : Type 0 where
   pub outcome : Outcome
   pub of_words : IsOutcomeOf entries words left outcome
@@ -69,7 +76,8 @@ pub record Answers {K : Type 0} (sink : Sink K) (old new : K) (entries : Entries
   pub put : HasPut sink old new outcome.bytes
 
 -- the first bytes of an outcome were put
-pub record BreaksOff {K : Type 0} (sink : Sink K) (old new : K) (entries : Entries) (words : List (List ℕ))
+pub record BreaksOff {K : Type 0} (sink : Sink K) (old new : K) (entries : Entries)
+    (words : List (List ℕ))
     (left : Option (List ℕ)) : Type 0 where
   pub outcome : Outcome
   pub of_words : IsOutcomeOf entries words left outcome

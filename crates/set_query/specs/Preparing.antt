@@ -1,23 +1,25 @@
 -- What is put together before anything is written.
 use Rattle.std.specs.Prelude.{◌≡◌, ℕ, List, Result, Ok, Err, option_map}
-use Rattle.cert_audit.specs.Lowered.{meant_of_ready}
-use Rattle.phases.specs.Phases.{By, Then}
+use Rattle.cert_audit.specs.declared.lowering.PlanFault.{PlanFault}
+use Rattle.cert_audit.specs.declared.lowering.PlanFault.TheVariants as plans
 use Rattle.expr_text.specs.Sorted.{trees_of_sorted}
 use Rattle.expr_text.specs.declared.sorted.SortedProgram.{SortedProgram}
 use Rattle.expr_text.specs.declared.sorted.SortedSet.{SortedSet}
 use Rattle.expr_tree.specs.declared.sorting.Sort.{Sort}
 use Rattle.moment_core.specs.declared.line.Clock.{Clock}
+use Rattle.plan_core.specs.Plans.{meant_of_plan}
 use Rattle.query_words.specs.declared.queries.Query.{Query}
 use Rattle.stored_pair.specs.Meanings.{Entries}
 use Rattle.report_text.specs.Refusals.{IsPrintable}
 use Rattle.report_text.specs.declared.refusals.Refusal.{Refusal}
+use Rattle.report_text.specs.declared.refusals.Refusal.TheVariants as refusals
 use Rattle.set_query.specs.declared.preparing.Report.{Report}
 use Rattle.set_query.specs.declared.preparing.Report.TheVariants as reports
 use Rattle.set_query.specs.declared.searching.Search.{Search}
 use Rattle.set_query.specs.declared.preparing.Unready.{Unready}
 use Rattle.set_query.specs.declared.preparing.Unready.TheVariants as unready
-use Rattle.set_query.specs.Reading.{IsMeant, Reading, OnClock, Sorts, unless_clock, unless_two}
-use Rattle.set_query.specs.Report.{IsReply, IsReportOf, IsSearched, Outcome, refused_by}
+use Rattle.set_query.specs.Reading.{Fits, IsMeant, Reading, OnClock, Settles, Sorts}
+use Rattle.set_query.specs.Report.{IsReply, IsAskedBy, IsReportOf, Outcome, refused_by}
 
 abbrev pub sort_of_set : SortedSet → Sort
 sort_of_set s = s.sort
@@ -34,6 +36,11 @@ abbrev pub IsUnready : (Refusal → Type 0) → Unready → Type 0
 IsUnready Is (unready.Refused refusal) = IsPrintable refusal × Is refusal
 IsUnready Is unready.Memory = Unit {0}
 
+-- why there is no report where there is no plan
+abbrev pub unready_of : PlanFault → Unready
+unready_of (plans.Settle passed at) = unready.Refused (refusals.Settle passed at)
+unready_of plans.Memory = unready.Memory
+
 abbrev pub GivesMeant : List ℕ → Result SortedProgram Unready → Type 0
 GivesMeant text (Ok p) = IsMeant text (Ok (reading_of p))
 GivesMeant text (Err e) = IsUnready (λ refusal. IsMeant text (Err refusal)) e
@@ -44,24 +51,30 @@ clocked reading (Ok clock) = Ok (record { reading = reading; clock = clock })
 clocked reading (Err refusal) = Err refusal
 
 abbrev pub GivesClock : Query → Reading → Result Clock Refusal → Type 0
-GivesClock query reading r = Then (By (unless_two query)) (By (unless_clock query)) reading (clocked reading r)
+GivesClock query reading r = Fits query reading (clocked reading r)
 
 -- the outcomes that a search may have
 abbrev pub Finds : Search → Outcome → Type 0
-Finds s = IsSearched (meant_of_ready s.ready) s.kind s.clock s.at.0 s.budget
+Finds s = IsAskedBy (meant_of_plan s.plan) s.side s.kind s.clock s.at.0 s.budget
 
 -- the outcomes that a report may have
 abbrev pub Reports : Report → Outcome → Type 0
 Reports (reports.Printed v) o = o ≡ record { status = 0; bytes = v.items }
-Reports (reports.Next search) o = Finds search o
+Reports (reports.Near search) o = Finds search o
 
--- a report of the command over a reading
+abbrev pub on : Reading → Clock → OnClock
+on reading clock = record { reading = reading; clock = clock }
+
+-- a report of the command over a reading whose counts are settled, or the refusal of the first one that isn't
 abbrev pub GivesReport : Entries → Query → Reading → Clock → Result Report Unready → Type 0
-GivesReport entries query reading clock (Ok report) = (o : Outcome) → Reports report o → IsReportOf entries query reading clock o
-GivesReport entries query reading clock (Err (unready.Refused refusal)) = ⊥
-GivesReport entries query reading clock (Err unready.Memory) = Unit {0}
+GivesReport entries query reading clock (Ok report) =
+    Settles query (on reading clock) (Ok (on reading clock))
+    × ((o : Outcome) → Reports report o → IsReportOf entries query reading clock o)
+GivesReport entries query reading clock (Err e) = IsUnready (λ refusal. Settles query (on reading clock) (Err refusal)) e
 
 -- a report that answers the query, or its refusal
 abbrev pub Prepares : Entries → Query → List ℕ → Result Report Unready → Type 0
-Prepares entries query text (Ok report) = (o : Outcome) → Reports report o → IsReply entries query text o
-Prepares entries query text (Err e) = IsUnready (λ refusal. IsReply entries query text (refused_by refusal)) e
+Prepares entries query text (Ok report) =
+    (o : Outcome) → Reports report o → IsReply entries query text o
+Prepares entries query text (Err e) =
+    IsUnready (λ refusal. IsReply entries query text (refused_by refusal)) e

@@ -1,10 +1,12 @@
 -- What a text means to a query, phase by phase, or why it is refused.
 use Rattle.std.specs.Prelude.{◌≡◌, ℕ, Bool, true, List, Option, Some, None, Result, Ok, Err, is_none, if◌then◌else◌}
+use Rattle.cert_audit.specs.Settling.{AreSettled, IsFirstUnsettled}
 use Rattle.expr_text.specs.Accepted.{IsRead}
 use Rattle.expr_text.specs.Fault.{Fault}
 use Rattle.expr_tree.specs.Sorts.{sort_of_tree}
 use Rattle.expr_tree.specs.Tree.{Rule, Tree, Trees}
 use Rattle.expr_tree.specs.declared.sorting.Sort.{Sort}
+use Rattle.ical_rules.specs.declared.outcome.Unsettled.{Unsettled}
 use Rattle.phases.specs.Phases.{By, Then}
 use Rattle.moment_core.specs.Clocks.{clock_of_stamp, one_clock}
 use Rattle.moment_core.specs.declared.line.Clock.{Clock}
@@ -26,7 +28,8 @@ AreSecondSorts (Some t) (Some sort) = sort_of_tree t ≡ Ok sort
 AreSecondSorts t sort = ⊥
 
 abbrev pub AreSorts : Trees → Sorts → Type 0
-AreSorts trees sorts = (sort_of_tree trees.first ≡ Ok sorts.first) × AreSecondSorts trees.second sorts.second
+AreSorts trees sorts =
+    (sort_of_tree trees.first ≡ Ok sorts.first) × AreSecondSorts trees.second sorts.second
 
 -- what a text is read as: sets with their sorts
 pub record Reading : Type 0 where
@@ -35,7 +38,8 @@ pub record Reading : Type 0 where
 
 -- the sets of the text, or the refusal of its fault
 pub data IsMeant (text : List ℕ) : Result Reading Refusal → Type 0 where
-  sets : (reading : Reading) → IsRead text (Ok reading.trees) → AreSorts reading.trees reading.sorts → IsMeant text (Ok reading)
+  sets : (reading : Reading) → IsRead text (Ok reading.trees) → AreSorts reading.trees reading.sorts
+      → IsMeant text (Ok reading)
   faulty : (fault : Fault) → IsRead text (Err fault) → IsMeant text (Err (text_refusal fault))
 
 -- whether the command takes so many expressions
@@ -73,8 +77,26 @@ on_clock reading (Some clock) = Ok (record { reading = reading; clock = clock })
 on_clock reading None = Err refusals.Clock
 
 abbrev pub unless_clock : Query → Reading → Result OnClock Refusal
-unless_clock query reading = on_clock reading (one_clock (sets_clock reading.sorts) (words_clock query))
+unless_clock query reading =
+    on_clock reading (one_clock (sets_clock reading.sorts) (words_clock query))
 
--- The phases behind the words: the text's own, the number of expressions, and the clocks.
+-- the counts of the set that a command searches are settled, or its first one that isn't; `show` searches none
+abbrev pub AreSettledFor : Query → Trees → Type 0
+AreSettledFor Show trees = Unit {0}
+AreSettledFor (NearBy side at budget) trees = AreSettled trees.first
+
+abbrev pub IsUnsettledFor : Query → Trees → Unsettled → Type 0
+IsUnsettledFor Show trees u = ⊥
+IsUnsettledFor (NearBy side at budget) trees u = IsFirstUnsettled trees.first u
+
+pub data Settles (query : Query) (x : OnClock) : Result OnClock Refusal → Type 0 where
+  settled : AreSettledFor query x.reading.trees → Settles query x (Ok x)
+  unsettled : (u : Unsettled) → IsUnsettledFor query x.reading.trees u → Settles query x (Err (refusals.Settle u.passed u.at))
+
+-- the number of expressions, and the clocks
+abbrev pub Fits : Query → Reading → Result OnClock Refusal → Type 0
+Fits query = Then (By (unless_two query)) (By (unless_clock query))
+
+-- The phases behind the words: the text's own, the number of expressions, the clocks, and the counts.
 abbrev pub Passes : Query → List ℕ → Result OnClock Refusal → Type 0
-Passes query = Then IsMeant (Then (By (unless_two query)) (By (unless_clock query)))
+Passes query = Then IsMeant (Then (Fits query) (Settles query))

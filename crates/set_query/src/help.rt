@@ -12,8 +12,12 @@ towhipae tells when a set of moments or spans next happens, for ever both ways.
 The text on standard input says what the set is; one line is written.
 
 Commands:
-  next at=M [budget=N]   the first run that begins after the moment M
-  show                   the printed form of the text
+  next at=M [budget=N]       the first run that begins after the moment M
+  previous at=M [budget=N]   the last run that ends before M
+  current at=M [budget=N]    the run that holds M, or else the previous one
+  closest at=M [budget=N]    the run that holds M, or else the nearer neighbour
+  contains at=M [budget=N]   whether a run holds M: `yes` or `no`
+  show                       the printed form of the text
 
 A moment is written 2026-12-24T18:00:00, or with a Z on the absolute clock.
 A search stops once it has passed N places at which something may change,
@@ -33,8 +37,6 @@ Examples:
   (2003-01-01T00:00:00 .. inf)
   $ echo 'monthly(days=-1)' | towhipae next at=2024-02-10T00:00:00
   2024-02-29T00:00:00
-  $ echo '{2026-12-24T18:00:00} & span( )' | towhipae show
-  {2026-12-24T18:00:00} & span()
 
 Status:
   0  answered, by a run, by `none` or by `edge`

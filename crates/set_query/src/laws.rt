@@ -2,9 +2,9 @@
 
 ghost use Rattle.set_query.specs.Laws.{OutcomesAreUnique, OutcomesExist, RefusalsAreAlone};
 
-use cert_audit::tree_frame_laws;
+use cert_audit::{settle_laws, tree_frame_laws};
 use expr_text::reading_laws;
-use near_search::{endless_laws, next_laws};
+use query_core::{endless_laws, neighbour_laws};
 use query_words::words_laws;
 
 /// Words have an outcome over each text, and one alone but for stops; a refusal is alone.
@@ -16,6 +16,7 @@ pub fn outcome_laws()
     words_laws();
     reading_laws();
     tree_frame_laws();
+    settle_laws();
     endless_laws();
-    next_laws();
+    neighbour_laws();
 }

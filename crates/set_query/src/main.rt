@@ -31,8 +31,9 @@ fn words_of(rt: &HostRuntime) -> io::Result<Vec<String>> {
     Ok(words)
 }
 
-/// Answers the query over the standard streams, or writes the help or the version. Words that are no text are refused as a
-/// first word that is no command is, and without memory for them the status is 6.
+/// Answers the query over the standard streams, or writes the help or the version. Words that are
+/// no text are refused as a first word that is no command is, and without memory for them the
+/// status is 6.
 fn answer<L: Ledger>(rt: &HostRuntime, blank: Blank) -> u8
     requires name { blank.name ≡ L.name }
     requires parts { blank.parts ≡ L.parts }

@@ -1,22 +1,25 @@
-//! What is put together before anything is written: all that can be refused, and all that takes memory.
+//! What is put together before anything is written: all that can be refused, and all that takes
+//! memory.
 
 ghost use Rattle.std.specs.Prelude.{◌≡◌, IfErr, IfOk};
-ghost use Rattle.expr_text.specs.Accepted.{AreWellFormed};
-ghost use Rattle.expr_text.specs.Printing.{print_program};
+ghost use Rattle.expr_tree.specs.WellFormed.{AreWellFormed};
+ghost use Rattle.expr_print.specs.Printing.{print_program};
 ghost use Rattle.expr_text.specs.Sorted.{trees_of_sorted, HaveSorts};
 ghost use Rattle.stored_pair.specs.Names.{entries_of};
 ghost use Rattle.report_text.specs.Lines.{with_line_feed};
 ghost use Rattle.report_text.specs.Refusals.{IsPrintable};
 ghost use Rattle.set_query.specs.declared.preparing.Unready.TheVariants.{Memory};
 ghost use Rattle.set_query.specs.Reading.{either_clock, sets_clock, takes, words_clock};
-ghost use Rattle.set_query.specs.Preparing.{reading_of, sorts_of, GivesClock, GivesMeant, GivesReport, Prepares};
+ghost use Rattle.set_query.specs.Preparing.{reading_of, sorts_of, unready_of, GivesClock, GivesMeant, GivesReport, Prepares};
 ghost use Rattle.set_query.specs.Report.{IsInRange};
 
 use crate::refusals::text_refusal;
 use crate::searching::Search;
-use cert_audit::{PlanFault, Ready};
-use expr_text::{SortedProgram, read_sorted, write_program};
+use cert_audit::{PlanFault, settle_laws};
+use expr_print::write_program;
+use expr_text::{SortedProgram, read_sorted};
 use moment_core::Clock;
+use plan_core::Plan;
 use query_words::Query;
 use report_text::{LINE_FEED, Refusal};
 use std::alloc::{AllocError, Global};
@@ -27,8 +30,8 @@ use stored_pair::Book;
 pub(crate) enum Report<'b> {
     /// This text.
     Printed(Vec<u8>),
-    /// The next run of a set after a moment.
-    Next(Search<'b>),
+    /// What is asked of a set by a moment.
+    Near(Search<'b>),
 }
 
 /// Why there is no report.
@@ -101,7 +104,8 @@ fn sets_clock(program: &SortedProgram) -> Clock
     either_clock(program.first.sort.clock, second)
 }
 
-/// The clock of the lines, where the command takes the program's expressions and the words' moments may be on their clock.
+/// The clock of the lines, where the command takes the program's expressions and the words' moments
+/// may be on their clock.
 fn clock_of(query: Query, program: &SortedProgram) -> Result<Clock, Refusal>
     ensures clock { GivesClock query (reading_of program.now) result }
     ensures printable { IfErr result IsPrintable }
@@ -112,6 +116,16 @@ fn clock_of(query: Query, program: &SortedProgram) -> Result<Clock, Refusal>
     match sets_clock(program).common(words_clock(query)) {
         Some(clock) => Ok(clock),
         None => Err(Refusal::Clock),
+    }
+}
+
+/// Why there is no report where there is no plan.
+fn why_unready(fault: PlanFault) -> Unready
+    ensures { result ≡ unready_of fault }
+{
+    match fault {
+        PlanFault::Settle { passed, at } => Unready::Refused(Refusal::Settle { passed, at }),
+        PlanFault::Memory => Unready::Memory,
     }
 }
 
@@ -126,7 +140,8 @@ fn printed_line(alloc: Global, program: SortedProgram) -> Result<Vec<u8>, AllocE
     Ok(line)
 }
 
-/// The report of a query over a program that it takes, with all memory that it takes.
+/// The report of a query over a program that it takes, with all memory that it takes; or the refusal of the first count in the set
+/// to be searched that isn't settled.
 fn make_report<'b>(
     alloc: Global,
     query: Query,
@@ -139,19 +154,18 @@ fn make_report<'b>(
     requires sorts { HaveSorts program }
     ensures { GivesReport (entries_of book.now) query (reading_of program) clock result }
 {
+    settle_laws();
     match query {
-        Query::Near { at, budget, .. } => match Ready::make(alloc, &program.first.set, book) {
-            Ok(ready) => Ok(Report::Next(Search {
-                ready,
+        Query::Near { side, at, budget } => match Plan::make(alloc, &program.first.set, book) {
+            Ok(plan) => Ok(Report::Near(Search {
+                plan,
+                side,
                 kind: program.first.sort.kind,
                 clock,
                 at: at.moment,
                 budget,
             })),
-            Err(PlanFault::Settle { passed, at }) => {
-                Err(Unready::Refused(Refusal::Settle { passed, at }))
-            }
-            Err(PlanFault::Memory) => Err(Unready::Memory),
+            Err(fault) => Err(why_unready(fault)),
         },
         Query::Show => Ok(Report::Printed(printed_line(alloc, program)?)),
     }

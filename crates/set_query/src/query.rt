@@ -17,14 +17,15 @@ use crate::reporting::write_report;
 use expr_text::reading_laws;
 use expr_tree::tree_laws;
 use moment_core::Steps;
-use near_search::budget_laws;
 use outside_core::{Sink, Source};
+use query_core::budget_laws;
 use query_words::{Query, read_words, words_laws};
 use std::alloc::Global;
 use std::sync::ledger::Ledger;
 use stored_pair::Book;
 
-/// Answers the query over the text; the status is 6, and nothing is written, where no memory is left.
+/// Answers the query over the text; the status is 6, and nothing is written, where no memory is
+/// left.
 fn reply<K: Sink, L: Ledger>(
     alloc: Global,
     query: Query,
@@ -34,12 +35,13 @@ fn reply<K: Sink, L: Ledger>(
     steps: &mut Steps<L>,
 ) -> u8
     requires { IsInRange query }
-    ensures outcome { IsReported K.Sink sink.old sink.new (IsReply (entries_of book.now) query text.now) result
+    ensures outcome { IsReported K.Sink sink.old sink.new
+        (IsReply (entries_of book.now) query text.now) result
         ⊎ RanOut sink.old sink.new result }
     ensures steps { steps.old ≤ steps.new }
 {
     match prepare(alloc, query, text, book) {
-        Ok(report) => write_report(&report, sink, steps),
+        Ok(mut report) => write_report(&mut report, sink, steps),
         Err(Unready::Refused(refusal)) => refuse(refusal, sink),
         Err(Unready::Memory) => 6,
     }
@@ -47,31 +49,41 @@ fn reply<K: Sink, L: Ledger>(
 
 /// Answers a query: reads the words, then the source, and writes one line by one call.
 ///
-/// The words are `show`, or `next` with `at=M` and perhaps `budget=N`. Other words are refused with status 2, and nothing is
-/// read: by `refused words` and the number of the first bad word, or by `refused unbuilt` where the first word is a command
+/// The words are `show`, or `next`, `previous`, `current`, `closest` or `contains` with `at=M` and
+/// perhaps `budget=N`. Other words are refused with status 2, and nothing is read: by `refused words`
+/// and the number of the first bad word, or by `refused unbuilt` where the first word is a command
 /// that isn't answered yet. Otherwise the source is read to its end, or 65,537 bytes.
 ///
-/// A text of the expression language is refused by the line of its first fault, with status 2. In the order in which they are
-/// looked for:
+/// A text of the expression language is refused by the line of its first fault, with status 2. In
+/// the order in which they are looked for:
 ///
 /// - `refused long` for more than 65,536 bytes;
 /// - `refused token` and the byte at which no token begins;
 /// - `refused unbuilt` for a call that isn't answered yet;
 /// - `refused syntax`;
-/// - `refused moment` and the byte of a literal that names no moment, or of a span without a position;
-/// - `refused rule mix` and the frequency and a key that it may not give, or `months weeks` where both are given,
-///   `refused rule value` and the key of a value out of its range, or `refused rule interval`, for the first rule with a fault;
+/// - `refused moment` and the byte of a literal that names no moment, or of a span without a
+///   position;
+/// - `refused rule mix` and the frequency and a key that it may not give, or `months weeks` where
+///   both are given, `refused rule value` and the key of a value out of its range, or `refused rule
+///   interval`, for the first rule with a fault;
 /// - `refused sort` and what the sort lacks.
 ///
 /// Under `show` another text is answered by its printed form, with status 0.
 ///
-/// Under `next` two expressions are refused by `refused two`, and an expression on the other clock than M's by
-/// `refused clock`, with status 2. The line tells the first run that begins after M, with status 0: its moment or its
-/// bounds, `none` and the window after which the set repeats without one, or `edge` where none begins in the calendar
-/// range and nothing is said past it. It is `budget`, the position and the node, with status 3, where a search stops because
-/// it passed N candidates or more.
+/// Under the commands with a moment two expressions are refused by `refused two`, an expression on
+/// the other clock than M's by `refused clock`, and one with a rule whose COUNT isn't settled by
+/// `refused settle`, with status 2: its last member isn't among the first 20,000,000 candidates,
+/// whose number and last place follow.
 ///
-/// The status is 4 where a read failed, 5 where the write failed, and 6 where no memory was left before the write.
+/// Otherwise the line tells, with status 0, the first run that begins after M (`next`), the last run
+/// that ends before it (`previous`), the run that holds M or else the previous one (`current`), or the
+/// run that holds M or else the nearer neighbour (`closest`): its moment or its bounds, `none` and the
+/// window after which the set repeats without one, or `edge` where there is none in the calendar
+/// range and nothing is said past it. Under `contains` it is `yes` or `no`. It is `budget`, the
+/// position and the node, with status 3, where a search stops because it passed N candidates or more.
+///
+/// The status is 4 where a read failed, 5 where the write failed, and 6 where no memory was left
+/// before the write.
 pub fn run<S: Source, K: Sink, L: Ledger>(
     alloc: Global,
     words: &[String],
@@ -88,13 +100,16 @@ pub fn run<S: Source, K: Sink, L: Ledger>(
 
     // Then the status and the line are those of the words and the text.
     ensures done { IsDone result
-        → Answers K.Sink sink.old sink.new (entries_of book.now) (map string_bytes words.now) (S.left source.old) result }
+        → Answers K.Sink sink.old sink.new (entries_of book.now)
+        (map string_bytes words.now) (S.left source.old) result }
 
     // With an ample budget no search stops.
     ensures ample { (query : Query) → Asks (map string_bytes words.now) query
-        → IfSome (S.left source.old) (λ text. HasAmpleBudget (entries_of book.now) text query → result ≢ 3) }
+        → IfSome (S.left source.old)
+        (λ text. HasAmpleBudget (entries_of book.now) text query → result ≢ 3) }
 
-    // Where the words are refused nothing is read. Otherwise the first bytes are read, which are all where the text is answered.
+    // Where the words are refused nothing is read. Otherwise the first bytes are read, which are
+    // all where the text is answered.
     ensures unread { (fault : WordsFault) → IsRefused (map string_bytes words.now) fault
         → source.new ≡ source.old }
     ensures read { (query : Query) → Asks (map string_bytes words.now) query
@@ -107,7 +122,8 @@ pub fn run<S: Source, K: Sink, L: Ledger>(
 
     // After a fault of the sink it took the first bytes of the line.
     ensures sink_fault { result ≡ 5 → WriteFailed K.Sink sink.old sink.new
-        × BreaksOff K.Sink sink.old sink.new (entries_of book.now) (map string_bytes words.now) (S.left source.old) }
+        × BreaksOff K.Sink sink.old sink.new (entries_of book.now)
+        (map string_bytes words.now) (S.left source.old) }
 
     // Words that are refused take no memory, and where it runs out nothing was written.
     ensures memory { result ≡ 6 → ((query : Query) × Asks (map string_bytes words.now) query)

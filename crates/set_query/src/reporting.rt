@@ -1,16 +1,19 @@
 //! Writing a report.
 
 ghost use Rattle.std.specs.Prelude.{◌≡◌, ◌<◌, ◌≤◌};
-ghost use Rattle.set_query.specs.Effects.{IsReported};
+ghost use Rattle.set_query.specs.Effects.{IsReported, IsWritten};
+ghost use Rattle.span_core.specs.Answers.{IsCalendarNear};
 ghost use Rattle.set_query.specs.Preparing.{Finds, Reports};
-ghost use Rattle.set_query.specs.Report.{status_of};
+ghost use Rattle.set_query.specs.Report.{status_of, told};
 
 use crate::preparing::Report;
 use crate::searching::Search;
 use crate::writing::put;
-use moment_core::Steps;
+use expr_tree::Kind;
+use moment_core::{Clock, Steps};
 use outside_core::Sink;
-use report_text::line_near;
+use query_words::Neighbour;
+use report_text::{line_near, line_test};
 use span_core::Near;
 use std::sync::ledger::Ledger;
 
@@ -24,27 +27,61 @@ fn status_of(near: Near) -> u8
     }
 }
 
-/// Searches the set for the run after the moment, and writes its line.
-fn write_next<K: Sink, L: Ledger>(search: &Search<'_>, sink: &mut K, steps: &mut Steps<L>) -> u8
-    ensures outcome { IsReported K.Sink sink.old sink.new (Finds search.now) result }
+/// Writes the line of a neighbour.
+fn write_near<K: Sink>(near: Near, kind: Kind, clock: Clock, sink: &mut K) -> u8
+    requires { IsCalendarNear near }
+    ensures { IsWritten K.Sink sink.old sink.new (told kind clock near) result }
+{
+    let line = line_near(near, kind, clock);
+    put(sink, line.bytes(), status_of(near))
+}
+
+/// Asks the set what the command asks, and writes its line.
+fn write_asked<K: Sink, L: Ledger>(
+    search: &mut Search<'_>,
+    sink: &mut K,
+    steps: &mut Steps<L>,
+) -> u8
+    ensures outcome { IsReported K.Sink sink.old sink.new (Finds search.old) result }
     ensures steps { steps.old ≤ steps.new }
 {
-    let near = near_search::next(&search.ready, search.at, search.budget, steps);
-    let line = line_near(near, search.kind, search.clock);
-    put(sink, line.bytes(), status_of(near))
+    let (at, budget, kind, clock) = (search.at, search.budget, search.kind, search.clock);
+    let plan = &mut search.plan;
+    match search.side {
+        Neighbour::Next => {
+            let near = query_core::next(plan, at, budget, steps);
+            write_near(near, kind, clock, sink)
+        }
+        Neighbour::Previous => {
+            let near = query_core::previous(plan, at, budget, steps);
+            write_near(near, kind, clock, sink)
+        }
+        Neighbour::Current => {
+            let near = query_core::current(plan, at, budget, steps);
+            write_near(near, kind, clock, sink)
+        }
+        Neighbour::Closest => {
+            let near = query_core::closest(plan, at, budget, steps);
+            write_near(near, kind, clock, sink)
+        }
+        Neighbour::Contains => {
+            let line = line_test(query_core::contains(plan, at, budget, steps));
+            put(sink, line.bytes(), 0)
+        }
+    }
 }
 
 /// Writes the report. It takes no memory.
 pub(crate) fn write_report<K: Sink, L: Ledger>(
-    report: &Report<'_>,
+    report: &mut Report<'_>,
     sink: &mut K,
     steps: &mut Steps<L>,
 ) -> u8
-    ensures outcome { IsReported K.Sink sink.old sink.new (Reports report.now) result }
+    ensures outcome { IsReported K.Sink sink.old sink.new (Reports report.old) result }
     ensures steps { steps.old ≤ steps.new }
 {
     match report {
         Report::Printed(text) => put(sink, text, 0),
-        Report::Next(search) => write_next(search, sink, steps),
+        Report::Near(search) => write_asked(search, sink, steps),
     }
 }

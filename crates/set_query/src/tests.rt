@@ -14,6 +14,7 @@ use std::sync::ledger::{Blank, Ledger};
 use std::test::Fail;
 use stored_pair::Book;
 
+mod neighbours;
 mod rules;
 
 fn words_of(alloc: Global, line: &str) -> Result<Vec<String>, AllocError> {
@@ -24,8 +25,8 @@ fn words_of(alloc: Global, line: &str) -> Result<Vec<String>, AllocError> {
     Ok(words)
 }
 
-// Without faults the status and the line are those of the words and the text, over a book without entries, unless memory
-// runs out.
+// Without faults the status and the line are those of the words and the text, over a book without
+// entries, unless memory runs out.
 fn run_sure<L: Ledger>(
     alloc: Global,
     words: &[String],
@@ -73,17 +74,73 @@ fn answer_with_faults(
     run_with_faults::<Brand>(alloc, words, source, sink, Blank::new(1))
 }
 
+/// A sink that takes every write but these, counted from 0.
+fn sink_of(alloc: Global, failed: &[u64]) -> Result<MemSink, AllocError> {
+    let failed = Vec::from_slice(alloc, failed)?;
+    MemSink::new(alloc, 64, failed)
+}
+
+/// A source of the text in which these reads fail, counted from 0.
+fn source_of(alloc: Global, text: &[u8], failed: &[u64]) -> Result<MemSource, AllocError> {
+    let text = Vec::from_slice(alloc, text)?;
+    Ok(MemSource::new(text, Vec::from_slice(alloc, failed)?))
+}
+
+/// The query over the text ends with this status and writes this line.
+fn is_answered(
+    rt: &impl Abort,
+    alloc: Global,
+    (line, text): (&str, &[u8]),
+    status: u8,
+    written: &str,
+) -> Result<(), AllocError> {
+    let words = words_of(alloc, line)?;
+    let mut source = SureSource::new(Vec::from_slice(alloc, text)?);
+    let mut sink = SureSink::new(alloc, 256)?;
+    let answered = answer(alloc, &words, &mut source, &mut sink);
+    assert_eq!(rt; answered, status, "{text:?} at {line}");
+    assert!(rt; sink.taken() == written.as_bytes(), "{text:?} at {line}");
+    Ok(())
+}
+
+/// `show` over the text ends with this status and writes this line.
+fn shows(
+    rt: &impl Abort,
+    alloc: Global,
+    text: &[u8],
+    status: u8,
+    line: &str,
+) -> Result<(), AllocError> {
+    is_answered(rt, alloc, ("show", text), status, line)
+}
+
+/// The query over the text, with these reads and writes failed, ends with this status and writes this line.
+fn is_answered_with_faults(
+    rt: &impl Abort,
+    alloc: Global,
+    (line, text): (&str, &str),
+    (reads, writes): (&[u64], &[u64]),
+    (status, written): (u8, &str),
+) -> Result<(), AllocError> {
+    let words = words_of(alloc, line)?;
+    let mut source = source_of(alloc, text.as_bytes(), reads)?;
+    let mut sink = sink_of(alloc, writes)?;
+    let answered = answer_with_faults(alloc, &words, &mut source, &mut sink);
+    assert_eq!(rt; answered, status, "{text} at {line}");
+    assert!(rt; sink.taken() == written.as_bytes(), "{text} at {line}");
+    Ok(())
+}
+
 // python3's dates give the answers; years below 1 are moved by 12,000 years, which are 30 times 146,097 days.
 #[test]
 fn the_next_day_of_a_month_is_written_or_edge_or_a_stop_or_a_refusal(
     rt: HostRuntime,
 ) -> Result<(), Fail> {
-    let alloc = rt.alloc();
-    for (line, text, status, written) in [
+    const ROWS: &[(&str, &str, u8, &str)] = &[
         (
             "next at=2024-02-10T00:00:00",
             "monthly(days=29)",
-            0u8,
+            0,
             "2024-02-29T00:00:00\n",
         ),
         (
@@ -235,40 +292,29 @@ fn the_next_day_of_a_month_is_written_or_edge_or_a_stop_or_a_refusal(
         ("", "monthly(days=29)", 2, "refused words 0\n"),
         ("--help", "monthly(days=29)", 2, "refused words 0\n"),
         ("walk", "monthly(days=29)", 2, "refused unbuilt\n"),
-    ] {
-        let text = Vec::from_slice(alloc, text.as_bytes())?;
-        let mut source = SureSource::new(text);
-        let mut sink = SureSink::new(alloc, 64)?;
-        let words = words_of(alloc, line)?;
-        let answered = answer(alloc, &words, &mut source, &mut sink);
-        assert_eq!(rt; answered, status, "at {line}");
-        assert!(rt; sink.taken() == written.as_bytes(), "at {line}");
+    ];
+    let alloc = rt.alloc();
+    for (line, text, status, written) in ROWS {
+        is_answered(&rt, alloc, (line, text.as_bytes()), *status, written)?;
     }
     Ok(())
 }
 
 #[test]
 fn a_failed_read_is_status_4_and_a_failed_write_status_5(rt: HostRuntime) -> Result<(), Fail> {
+    const NEXT: &str = "next at=2024-02-10T00:00:00";
+    const ROWS: &[(&str, &str, &[u64], &[u64], u8)] = &[
+        (NEXT, "monthly(days=29)", &[0], &[], 4),
+        (NEXT, "monthly(days=29)", &[], &[0], 5),
+        (NEXT, "empty()", &[0], &[], 4),
+        (NEXT, "empty()", &[], &[0], 5),
+        ("show", "empty()", &[0], &[], 4),
+        ("show", "empty()", &[], &[0], 5),
+        ("show", "(", &[], &[0], 5),
+    ];
     let alloc = rt.alloc();
-    let next = "next at=2024-02-10T00:00:00";
-    for (line, text, failed_reads, failed_writes, status) in [
-        (next, "monthly(days=29)", 1usize, 0usize, 4u8),
-        (next, "monthly(days=29)", 0, 1, 5),
-        (next, "empty()", 1, 0, 4),
-        (next, "empty()", 0, 1, 5),
-        ("show", "empty()", 1, 0, 4),
-        ("show", "empty()", 0, 1, 5),
-        ("show", "(", 0, 1, 5),
-    ] {
-        let words = words_of(alloc, line)?;
-        let text = Vec::from_slice(alloc, text.as_bytes())?;
-        let reads = Vec::from_slice(alloc, &[0u64][..failed_reads])?;
-        let writes = Vec::from_slice(alloc, &[0u64][..failed_writes])?;
-        let mut source = MemSource::new(text, reads);
-        let mut sink = MemSink::new(alloc, 64, writes)?;
-        let answered = answer_with_faults(alloc, &words, &mut source, &mut sink);
-        assert_eq!(rt; answered, status, "at {line}");
-        assert!(rt; sink.taken() == b"".as_slice(), "at {line}");
+    for (line, text, reads, writes, status) in ROWS {
+        is_answered_with_faults(&rt, alloc, (line, text), (reads, writes), (*status, ""))?;
     }
     Ok(())
 }
@@ -276,70 +322,81 @@ fn a_failed_read_is_status_4_and_a_failed_write_status_5(rt: HostRuntime) -> Res
 // A second write would fail.
 #[test]
 fn each_line_goes_out_by_one_write(rt: HostRuntime) -> Result<(), Fail> {
-    let alloc = rt.alloc();
-    for (line, text, status, written) in [
+    const ROWS: &[(&str, &str, u8, &str)] = &[
         (
             "next at=2024-02-10T00:00:00",
             "!{2024-02-20T00:00:00}",
-            0u8,
+            0,
             "(2024-02-20T00:00:00 .. inf)\n",
         ),
         ("show", "empty()|span()", 0, "empty() | span()\n"),
         ("show", "empty() @", 2, "refused token 8\n"),
         ("show x", "", 2, "refused words 1\n"),
-    ] {
-        let words = words_of(alloc, line)?;
-        let mut source = MemSource::new(Vec::from_slice(alloc, text.as_bytes())?, Vec::new(alloc));
-        let mut sink = MemSink::new(alloc, 64, Vec::from_slice(alloc, &[1u64])?)?;
-        let answered = answer_with_faults(alloc, &words, &mut source, &mut sink);
-        assert_eq!(rt; answered, status, "at {line}");
-        assert!(rt; sink.taken() == written.as_bytes(), "at {line}");
+    ];
+    let alloc = rt.alloc();
+    for (line, text, status, written) in ROWS {
+        is_answered_with_faults(&rt, alloc, (line, text), (&[], &[1]), (*status, written))?;
     }
     Ok(())
 }
 
-// A read takes 4,096 bytes at most. Where all is read, one read more would fail; else what wasn't read is still there.
+/// `show` over so many spaces and a set, with this read failed, ends with this status; where all is read, one read more would
+/// fail, else what wasn't read is still there.
+fn leaves(
+    rt: &impl Abort,
+    alloc: Global,
+    (spaces, failed_read): (usize, u64),
+    status: u8,
+    left: usize,
+) -> Result<(), AllocError> {
+    let words = words_of(alloc, "show")?;
+    let text = repeated(alloc, b" ", spaces, b"empty()")?;
+    let mut source = source_of(alloc, &text, &[failed_read])?;
+    let mut sink = sink_of(alloc, &[])?;
+    let answered = answer_with_faults(alloc, &words, &mut source, &mut sink);
+    assert_eq!(rt; answered, status, "after {spaces} spaces");
+    let got = if left == 0 {
+        Got::End
+    } else {
+        Got::Bytes(left)
+    };
+    if answered == 4 || left != 0 {
+        let mut buf = [0u8; 1024];
+        assert_eq!(rt; source.read(&mut buf), got, "after {spaces} spaces");
+    }
+    Ok(())
+}
+
+// A read takes 4,096 bytes at most.
 #[test]
 fn nothing_is_read_after_the_end_or_a_failed_read(rt: HostRuntime) -> Result<(), Fail> {
-    let alloc = rt.alloc();
-    for (spaces, failed_read, status, left) in [
-        (0usize, 2u64, 0u8, 0usize),
+    const ROWS: &[(usize, u64, u8, usize)] = &[
+        (0, 2, 0, 0),
         (8_185, 3, 0, 0),
         (65_531, 99, 2, 1),
         (0, 0, 4, 7),
         (0, 1, 4, 0),
         (4_993, 1, 4, 904),
-    ] {
-        let words = words_of(alloc, "show")?;
-        let text = repeated(alloc, b" ", spaces, b"empty()")?;
-        let mut source = MemSource::new(text, Vec::from_slice(alloc, &[failed_read])?);
-        let mut sink = MemSink::new(alloc, 64, Vec::new(alloc))?;
-        let answered = answer_with_faults(alloc, &words, &mut source, &mut sink);
-        assert_eq!(rt; answered, status, "after {spaces} spaces");
-        let mut buf = [0u8; 1024];
-        let got = if left == 0 {
-            Got::End
-        } else {
-            Got::Bytes(left)
-        };
-        if answered == 4 || left != 0 {
-            assert_eq!(rt; source.read(&mut buf), got, "after {spaces} spaces");
-        }
+    ];
+    let alloc = rt.alloc();
+    for (spaces, failed_read, status, left) in ROWS {
+        leaves(&rt, alloc, (*spaces, *failed_read), *status, *left)?;
     }
     Ok(())
 }
 
 #[test]
 fn the_help_fits_a_screen_and_is_no_query(rt: HostRuntime) -> Result<(), Fail> {
-    let alloc = rt.alloc();
-    for (line, text) in [
+    const ROWS: &[(&str, Option<&str>)] = &[
         ("--help", Some(HELP)),
         ("--version", Some(VERSION)),
         ("--help show", None),
         ("show", None),
         ("", None),
-    ] {
-        assert_eq!(rt; text_of(&words_of(alloc, line)?), text, "at {line}");
+    ];
+    let alloc = rt.alloc();
+    for (line, text) in ROWS {
+        assert_eq!(rt; text_of(&words_of(alloc, line)?), *text, "at {line}");
     }
     assert!(rt; HELP.lines().count() <= 40);
     assert!(rt; HELP.lines().all(|line| line.len() <= 80));
@@ -356,30 +413,12 @@ fn repeated(alloc: Global, front: &[u8], times: usize, rest: &[u8]) -> Result<Ve
     Ok(text)
 }
 
-/// `show` over the text ends with this status and writes this line.
-fn shows(
-    rt: &impl Abort,
-    alloc: Global,
-    text: &[u8],
-    status: u8,
-    line: &str,
-) -> Result<(), AllocError> {
-    let words = words_of(alloc, "show")?;
-    let mut source = SureSource::new(Vec::from_slice(alloc, text)?);
-    let mut sink = SureSink::new(alloc, 256)?;
-    let answered = answer(alloc, &words, &mut source, &mut sink);
-    assert_eq!(rt; answered, status, "{text:?}");
-    assert!(rt; sink.taken() == line.as_bytes(), "{text:?}");
-    Ok(())
-}
-
 #[test]
 fn texts_are_shown_or_refused(rt: HostRuntime) -> Result<(), Fail> {
-    let alloc = rt.alloc();
-    for (text, status, line) in [
+    const ROWS: &[(&str, u8, &str)] = &[
         (
             "!(empty( )|{2024-01-01T00:00:00})",
-            0u8,
+            0,
             "!(empty() | {2024-01-01T00:00:00})\n",
         ),
         ("empty();\nspan()\n", 0, "empty() ; span()\n"),
@@ -405,17 +444,18 @@ fn texts_are_shown_or_refused(rt: HostRuntime) -> Result<(), Fail> {
         ("shift(empty(), 60)", 2, "refused unbuilt\n"),
         ("zoned(empty(), \"UTC0\")", 2, "refused unbuilt\n"),
         ("zoned_first(empty(), \"UTC0\")", 2, "refused unbuilt\n"),
-    ] {
-        shows(&rt, alloc, text.as_bytes(), status, line)?;
+    ];
+    let alloc = rt.alloc();
+    for (text, status, line) in ROWS {
+        shows(&rt, alloc, text.as_bytes(), *status, line)?;
     }
     Ok(())
 }
 
 #[test]
 fn long_and_deep_texts_are_refused_past_their_limits(rt: HostRuntime) -> Result<(), Fail> {
-    let alloc = rt.alloc();
-    for (front, times, rest, status, line) in [
-        (" ", 65_529usize, "empty()", 0u8, "empty()\n"),
+    const ROWS: &[(&str, usize, &str, u8, &str)] = &[
+        (" ", 65_529, "empty()", 0, "empty()\n"),
         (" ", 65_537, "", 2, "refused long\n"),
         (" ", 65_540, "", 2, "refused long\n"),
         ("span()|", 9361, "span()", 2, "refused sort nodes\n"),
@@ -432,40 +472,53 @@ fn long_and_deep_texts_are_refused_past_their_limits(rt: HostRuntime) -> Result<
             0,
             "!!!!!!!!!!!!!!!!!!!!!!!!!!!!!!!!!!!!!!!!!!!!!!!!!!!!!!!!!!!!!!!!!!!!!!!!!!!!!!!!!!!!!!!!!!!!!!!!!!!!!!!!!!!!!!!!!!!!!!!!!!!!!!!empty()\n",
         ),
-    ] {
-        let text = repeated(alloc, front.as_bytes(), times, rest.as_bytes())?;
-        shows(&rt, alloc, &text, status, line)?;
+    ];
+    let alloc = rt.alloc();
+    for (front, times, rest, status, line) in ROWS {
+        let text = repeated(alloc, front.as_bytes(), *times, rest.as_bytes())?;
+        shows(&rt, alloc, &text, *status, line)?;
     }
     Ok(())
 }
 
-/// Unions in brackets, down so many levels.
-fn unions(alloc: Global, levels: u32) -> Result<Vec<u8>, AllocError> {
-    let mut text = Vec::from_slice(alloc, b"empty()")?;
-    for _ in 0..levels {
-        let mut union = Vec::from_slice(alloc, b"(")?;
-        union.extend_from_slice(&text)?;
-        union.push(b'|')?;
-        union.extend_from_slice(&text)?;
-        union.push(b')')?;
-        text = union;
+/// The text of the pieces one after the other.
+fn joined(alloc: Global, pieces: &[&str]) -> Result<String, AllocError> {
+    let mut text = String::new(alloc);
+    for piece in pieces {
+        text.push_str(piece)?;
     }
     Ok(text)
+}
+
+/// Unions in brackets, down so many levels.
+fn unions(alloc: Global, levels: u32) -> Result<String, AllocError> {
+    let mut text = String::from_str(alloc, "empty()")?;
+    for _ in 0..levels {
+        text = joined(alloc, &["(", &text, "|", &text, ")"])?;
+    }
+    Ok(text)
+}
+
+/// `next` over nine levels of unions after the signs ends with this status and writes this line.
+fn has_unions(
+    rt: &impl Abort,
+    alloc: Global,
+    signs: &str,
+    status: u8,
+    line: &str,
+) -> Result<(), AllocError> {
+    let text = joined(alloc, &[signs, &unions(alloc, 9)?])?;
+    let next = "next at=2024-01-01T00:00:00";
+    is_answered(rt, alloc, (next, text.as_bytes()), status, line)
 }
 
 // Nine levels of unions have 512 + 511 nodes, and each sign has one more.
 #[test]
 fn a_set_has_at_most_1024_nodes(rt: HostRuntime) -> Result<(), Fail> {
     let alloc = rt.alloc();
-    let words = words_of(alloc, "next at=2024-01-01T00:00:00")?;
-    for (signs, status, line) in [(1usize, 0u8, "none "), (2, 2, "refused sort nodes\n")] {
-        let text = repeated(alloc, b"!", signs, &unions(alloc, 9)?)?;
-        let mut source = SureSource::new(text);
-        let mut sink = SureSink::new(alloc, 256)?;
-        let answered = answer(alloc, &words, &mut source, &mut sink);
-        assert_eq!(rt; answered, status, "{line}");
-        assert!(rt; sink.taken().starts_with(line.as_bytes()), "{line}");
-    }
+    let never = "none 2024-01-01T00:00:00 .. 2024-01-01T00:00:01\n";
+    has_unions(&rt, alloc, "!", 0, never)?;
+    has_unions(&rt, alloc, "!!", 2, "refused sort nodes\n")?;
     Ok(())
 }
 
@@ -487,9 +540,8 @@ fn a_byte_alone_is_no_token_or_no_set(rt: HostRuntime) -> Result<(), Fail> {
 }
 
 #[test]
-fn numbers_strings_and_moments_are_read_up_to_their_limits(rt: HostRuntime) -> Result<(), Fail> {
-    let alloc = rt.alloc();
-    for (text, line) in [
+fn numbers_and_moments_are_read_up_to_their_limits(rt: HostRuntime) -> Result<(), Fail> {
+    const ROWS: &[(&str, &str)] = &[
         ("9999999999999", "refused syntax\n"),
         ("99999999999999", "refused token 0\n"),
         ("empty() -9999999999999", "refused syntax\n"),
@@ -520,26 +572,35 @@ fn numbers_strings_and_moments_are_read_up_to_their_limits(rt: HostRuntime) -> R
             "refused syntax\n",
         ),
         ("empty() ; empty() ; empty()", "refused syntax\n"),
-    ] {
+    ];
+    let alloc = rt.alloc();
+    for (text, line) in ROWS {
         shows(&rt, alloc, text.as_bytes(), 2, line)?;
     }
-    for (length, line) in [(1024, "refused syntax\n"), (1025, "refused token 0\n")] {
-        let mut text = repeated(alloc, b"a", length, b"\"")?;
+    Ok(())
+}
+
+#[test]
+fn strings_have_at_most_1024_bytes(rt: HostRuntime) -> Result<(), Fail> {
+    const ROWS: &[(usize, &str)] = &[(1024, "refused syntax\n"), (1025, "refused token 0\n")];
+    let alloc = rt.alloc();
+    for (length, line) in ROWS {
+        let mut text = repeated(alloc, b"a", *length, b"\"")?;
         text.insert(0, b'"')?;
         shows(&rt, alloc, &text, 2, line)?;
     }
     Ok(())
 }
 
-// The stop is at the first candidate, 946,771,200 seconds after 1970-01-01 by python3, at twice as many positions.
+// The stop is at the first candidate, 946,771,200 seconds after 1970-01-01 by python3, at twice as
+// many positions.
 #[test]
 fn the_next_run_of_a_set_is_written(rt: HostRuntime) -> Result<(), Fail> {
-    let alloc = rt.alloc();
-    for (line, text, status, written) in [
+    const ROWS: &[(&str, &str, u8, &str)] = &[
         (
             "next at=2023-12-31T00:00:00",
             "{2024-01-01T00:00:00}",
-            0u8,
+            0,
             "2024-01-01T00:00:00\n",
         ),
         (
@@ -587,14 +648,10 @@ fn the_next_run_of_a_set_is_written(rt: HostRuntime) -> Result<(), Fail> {
             3,
             "budget 1893542400 0\n",
         ),
-    ] {
-        let text = Vec::from_slice(alloc, text.as_bytes())?;
-        let mut source = SureSource::new(text);
-        let mut sink = SureSink::new(alloc, 128)?;
-        let words = words_of(alloc, line)?;
-        let answered = answer(alloc, &words, &mut source, &mut sink);
-        assert_eq!(rt; answered, status, "at {line}");
-        assert!(rt; sink.taken() == written.as_bytes(), "at {line}");
+    ];
+    let alloc = rt.alloc();
+    for (line, text, status, written) in ROWS {
+        is_answered(&rt, alloc, (line, text.as_bytes()), *status, written)?;
     }
     Ok(())
 }

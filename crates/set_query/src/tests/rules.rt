@@ -1,22 +1,12 @@
 //! Rules by fields, by the lines that they are answered or refused with.
 //!
-//! The answers are those of python3's datetime, tried day by day and time by time. Years outside 1 to 9999 are moved by
-//! whole cycles of 400 years, which are 146,097 days.
+//! The answers are those of python3's datetime, tried day by day and time by time. Years outside 1
+//! to 9999 are moved by whole cycles of 400 years, which are 146,097 days.
 
-use super::{answer, shows, words_of};
-use outside_core::{SureSink, SureSource};
+use super::{is_answered, joined, shows};
 use std::alloc::{AllocError, Global};
 use std::process::Abort;
 use std::test::Fail;
-
-/// The text of the pieces one after the other.
-fn joined(alloc: Global, pieces: &[&str]) -> Result<String, AllocError> {
-    let mut text = String::new(alloc);
-    for piece in pieces {
-        text.push_str(piece)?;
-    }
-    Ok(text)
-}
 
 /// `next` at the moment over the text ends with this status and writes this line.
 fn nexts(
@@ -27,19 +17,13 @@ fn nexts(
     status: u8,
     line: &str,
 ) -> Result<(), AllocError> {
-    let words = words_of(alloc, &joined(alloc, &["next at=", at])?)?;
-    let mut source = SureSource::new(Vec::from_slice(alloc, text.as_bytes())?);
-    let mut sink = SureSink::new(alloc, 256)?;
-    let answered = answer(alloc, &words, &mut source, &mut sink);
-    assert_eq!(rt; answered, status, "{text} at {at}");
-    assert!(rt; sink.taken() == line.as_bytes(), "{text} at {at}");
-    Ok(())
+    let next = joined(alloc, &["next at=", at])?;
+    is_answered(rt, alloc, (&next, text.as_bytes()), status, line)
 }
 
 #[test]
 fn rules_by_year_are_met(rt: HostRuntime) -> Result<(), Fail> {
-    let alloc = rt.alloc();
-    for (at, text, line) in [
+    const ROWS: &[(&str, &str, &str)] = &[
         // years by months and days
         ("2024-01-01T00:00:00", "yearly()", "2025-01-01T00:00:00\n"),
         (
@@ -115,7 +99,9 @@ fn rules_by_year_are_met(rt: HostRuntime) -> Result<(), Fail> {
             "yearly(months=2 days=29 interval=4 start=2001-03-01T00:00:00)",
             "none 2010-01-01T00:00:00 .. 2410-01-01T00:00:00\n",
         ),
-    ] {
+    ];
+    let alloc = rt.alloc();
+    for (at, text, line) in ROWS {
         nexts(&rt, alloc, at, text, 0, line)?;
     }
     Ok(())
@@ -123,8 +109,7 @@ fn rules_by_year_are_met(rt: HostRuntime) -> Result<(), Fail> {
 
 #[test]
 fn rules_by_week_of_the_year_are_met(rt: HostRuntime) -> Result<(), Fail> {
-    let alloc = rt.alloc();
-    for (at, text, line) in [
+    const ROWS: &[(&str, &str, &str)] = &[
         // weeks and week-years
         (
             "2024-12-01T00:00:00",
@@ -181,7 +166,9 @@ fn rules_by_week_of_the_year_are_met(rt: HostRuntime) -> Result<(), Fail> {
             "yearly(weeks=53 days=3,-1 week_start=4)",
             "2028-12-31T00:00:00\n",
         ),
-    ] {
+    ];
+    let alloc = rt.alloc();
+    for (at, text, line) in ROWS {
         nexts(&rt, alloc, at, text, 0, line)?;
     }
     Ok(())
@@ -189,8 +176,7 @@ fn rules_by_week_of_the_year_are_met(rt: HostRuntime) -> Result<(), Fail> {
 
 #[test]
 fn rules_by_month_and_week_are_met(rt: HostRuntime) -> Result<(), Fail> {
-    let alloc = rt.alloc();
-    for (at, text, line) in [
+    const ROWS: &[(&str, &str, &str)] = &[
         // months
         (
             "-9900-01-01T00:00:00",
@@ -284,7 +270,9 @@ fn rules_by_month_and_week_are_met(rt: HostRuntime) -> Result<(), Fail> {
             "weekly(days=6 hours=-24,8)",
             "0000-01-01T00:00:00\n",
         ),
-    ] {
+    ];
+    let alloc = rt.alloc();
+    for (at, text, line) in ROWS {
         nexts(&rt, alloc, at, text, 0, line)?;
     }
     Ok(())
@@ -292,8 +280,7 @@ fn rules_by_month_and_week_are_met(rt: HostRuntime) -> Result<(), Fail> {
 
 #[test]
 fn rules_by_day_hour_minute_and_second_are_met(rt: HostRuntime) -> Result<(), Fail> {
-    let alloc = rt.alloc();
-    for (at, text, line) in [
+    const ROWS: &[(&str, &str, &str)] = &[
         // days
         ("2024-02-28T00:00:00", "daily()", "2024-02-29T00:00:00\n"),
         (
@@ -398,7 +385,9 @@ fn rules_by_day_hour_minute_and_second_are_met(rt: HostRuntime) -> Result<(), Fa
             "secondly(interval=7 start=1999-12-31T23:59:59Z)",
             "2024-01-01T00:00:01Z\n",
         ),
-    ] {
+    ];
+    let alloc = rt.alloc();
+    for (at, text, line) in ROWS {
         nexts(&rt, alloc, at, text, 0, line)?;
     }
     Ok(())
@@ -406,8 +395,7 @@ fn rules_by_day_hour_minute_and_second_are_met(rt: HostRuntime) -> Result<(), Fa
 
 #[test]
 fn rules_are_joined_with_other_sets(rt: HostRuntime) -> Result<(), Fail> {
-    let alloc = rt.alloc();
-    for (at, text, line) in [
+    const ROWS: &[(&str, &str, &str)] = &[
         (
             "2024-01-01T00:00:00",
             "monthly(days=13) & weekly(days=5)",
@@ -464,7 +452,9 @@ fn rules_are_joined_with_other_sets(rt: HostRuntime) -> Result<(), Fail> {
             "weekly(interval=2) & weekly(interval=2 start=1970-01-05T00:00:00)",
             "none 2024-01-01T00:00:00 .. 2824-01-01T00:00:00\n",
         ),
-    ] {
+    ];
+    let alloc = rt.alloc();
+    for (at, text, line) in ROWS {
         nexts(&rt, alloc, at, text, 0, line)?;
     }
     Ok(())
@@ -473,8 +463,7 @@ fn rules_are_joined_with_other_sets(rt: HostRuntime) -> Result<(), Fail> {
 // A rule without a start is floating.
 #[test]
 fn rules_stand_on_the_clock_of_their_start(rt: HostRuntime) -> Result<(), Fail> {
-    let alloc = rt.alloc();
-    for (at, text, line) in [
+    const ROWS: &[(&str, &str, &str)] = &[
         ("2024-01-01T00:00:00Z", "daily()", "refused clock\n"),
         (
             "2024-01-01T00:00:00",
@@ -492,7 +481,9 @@ fn rules_stand_on_the_clock_of_their_start(rt: HostRuntime) -> Result<(), Fail> 
             "refused sort clock\n",
         ),
         ("2024-01-01T00:00:00", "daily() ; hourly()", "refused two\n"),
-    ] {
+    ];
+    let alloc = rt.alloc();
+    for (at, text, line) in ROWS {
         nexts(&rt, alloc, at, text, 2, line)?;
     }
     Ok(())
@@ -500,8 +491,7 @@ fn rules_stand_on_the_clock_of_their_start(rt: HostRuntime) -> Result<(), Fail> 
 
 #[test]
 fn rules_are_printed_in_one_form(rt: HostRuntime) -> Result<(), Fail> {
-    let alloc = rt.alloc();
-    for (text, line) in [
+    const ROWS: &[(&str, &str)] = &[
         ("daily( )", "daily()\n"),
         (
             "!(daily( )|{2024-01-01T00:00:00})",
@@ -560,7 +550,9 @@ fn rules_are_printed_in_one_form(rt: HostRuntime) -> Result<(), Fail> {
             "secondly(interval=1000000000)",
             "secondly(interval=1000000000)\n",
         ),
-    ] {
+    ];
+    let alloc = rt.alloc();
+    for (text, line) in ROWS {
         shows(&rt, alloc, text.as_bytes(), 0, line)?;
     }
     Ok(())
@@ -568,8 +560,7 @@ fn rules_are_printed_in_one_form(rt: HostRuntime) -> Result<(), Fail> {
 
 #[test]
 fn a_key_that_a_frequency_may_not_give_is_refused(rt: HostRuntime) -> Result<(), Fail> {
-    let alloc = rt.alloc();
-    for (frequency, key) in [
+    const ROWS: &[(&str, &str)] = &[
         ("monthly", "months"),
         ("monthly", "weeks"),
         ("monthly", "week_start"),
@@ -597,7 +588,9 @@ fn a_key_that_a_frequency_may_not_give_is_refused(rt: HostRuntime) -> Result<(),
         ("secondly", "minutes"),
         ("secondly", "seconds"),
         ("secondly", "week_start"),
-    ] {
+    ];
+    let alloc = rt.alloc();
+    for (frequency, key) in ROWS {
         let text = joined(alloc, &[frequency, "(", key, "=1)"])?;
         let line = joined(alloc, &["refused rule mix ", frequency, " ", key, "\n"])?;
         shows(&rt, alloc, text.as_bytes(), 2, &line)?;
@@ -607,8 +600,7 @@ fn a_key_that_a_frequency_may_not_give_is_refused(rt: HostRuntime) -> Result<(),
 
 #[test]
 fn values_out_of_range_are_refused_by_their_key(rt: HostRuntime) -> Result<(), Fail> {
-    let alloc = rt.alloc();
-    for (text, line) in [
+    const ROWS: &[(&str, &str)] = &[
         ("yearly(months=0)", "refused rule value months\n"),
         ("yearly(months=13)", "refused rule value months\n"),
         ("yearly(months=-13)", "refused rule value months\n"),
@@ -646,7 +638,9 @@ fn values_out_of_range_are_refused_by_their_key(rt: HostRuntime) -> Result<(), F
         ("daily(interval=-1)", "refused rule interval\n"),
         ("daily(interval=1000000001)", "refused rule interval\n"),
         ("daily(interval=9999999999999)", "refused rule interval\n"),
-    ] {
+    ];
+    let alloc = rt.alloc();
+    for (text, line) in ROWS {
         shows(&rt, alloc, text.as_bytes(), 2, line)?;
     }
     Ok(())
@@ -654,8 +648,7 @@ fn values_out_of_range_are_refused_by_their_key(rt: HostRuntime) -> Result<(), F
 
 #[test]
 fn the_first_fault_of_a_rule_decides(rt: HostRuntime) -> Result<(), Fail> {
-    let alloc = rt.alloc();
-    for (text, line) in [
+    const ROWS: &[(&str, &str)] = &[
         (
             "yearly(months=1 weeks=1)",
             "refused rule mix months weeks\n",
@@ -715,16 +708,17 @@ fn the_first_fault_of_a_rule_decides(rt: HostRuntime) -> Result<(), Fail> {
             "daily(hours=24) | {2023-02-29T00:00:00}",
             "refused moment 19\n",
         ),
-    ] {
+    ];
+    let alloc = rt.alloc();
+    for (text, line) in ROWS {
         shows(&rt, alloc, text.as_bytes(), 2, line)?;
     }
     Ok(())
 }
 
 #[test]
-fn fields_are_refused_by_syntax_token_or_moment(rt: HostRuntime) -> Result<(), Fail> {
-    let alloc = rt.alloc();
-    for field in [
+fn no_field_is_given_twice(rt: HostRuntime) -> Result<(), Fail> {
+    const FIELDS: &[&str] = &[
         "months=1",
         "weeks=1",
         "days=1",
@@ -734,11 +728,18 @@ fn fields_are_refused_by_syntax_token_or_moment(rt: HostRuntime) -> Result<(), F
         "interval=1",
         "week_start=1",
         "start=2024-01-01T00:00:00",
-    ] {
+    ];
+    let alloc = rt.alloc();
+    for field in FIELDS {
         let text = joined(alloc, &["yearly(", field, " ", field, ")"])?;
         shows(&rt, alloc, text.as_bytes(), 2, "refused syntax\n")?;
     }
-    for (text, line) in [
+    Ok(())
+}
+
+#[test]
+fn fields_are_refused_by_syntax_token_or_moment(rt: HostRuntime) -> Result<(), Fail> {
+    const ROWS: &[(&str, &str)] = &[
         ("daily", "refused syntax\n"),
         ("daily(", "refused syntax\n"),
         ("daily(9)", "refused syntax\n"),
@@ -761,7 +762,9 @@ fn fields_are_refused_by_syntax_token_or_moment(rt: HostRuntime) -> Result<(), F
             "daily() ; daily(start=2024-01-01T24:00:00)",
             "refused moment 22\n",
         ),
-    ] {
+    ];
+    let alloc = rt.alloc();
+    for (text, line) in ROWS {
         shows(&rt, alloc, text.as_bytes(), 2, line)?;
     }
     Ok(())

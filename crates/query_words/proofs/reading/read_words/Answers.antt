@@ -1,5 +1,7 @@
-use Rattle.std.proofs.Common.{rules, ◌≡◌, ◌∷◌, map, sym, ◌∙◌, ap}
+use Rattle.std.proofs.Common.{rules, ◌≡◌, ◌≢◌, ◌∷◌, map, sym, ◌∙◌, ap, None}
 use Rattle.std.specs.String.{string_bytes}
+use Rattle.query_words.specs.declared.commands.Command.TheVariants.{Show}
+use Rattle.query_words.specs.Neighbours.{neighbour_of}
 use Rattle.query_words.specs.Words.{unbuilt}
 use Rattle.query_words.proofs.SettingLemmas.{no_words, no_name, not_built}
 use Rattle.query_words.proofs.reading.read_words.Goals as goal
@@ -13,10 +15,12 @@ returns-in_default-named c =
     let parts : c.args.words.now ≡ c.in-Some.first.now ∷ c.in-Some.later.now = search rules in
     no_name (map string_bytes c.args.words.now) later c.as_str.result.now (ap (map string_bytes) parts ∙ ap (λ f. f ∷ later) (sym c.as_str.ensures.value)) c.in_default-named.ensures.none
 
-pub returns-in_default-command : goal.returns-in_default-command
-returns-in_default-command c =
+pub returns-in-None : goal.returns-in-None
+returns-in-None c =
     let later = map string_bytes c.in-Some.later.now in
     let parts : c.args.words.now ≡ c.in-Some.first.now ∷ c.in-Some.later.now = search rules in
+    let none : neighbour_of c.in-Some-named.command ≡ None = search rules in
+    let other : c.in-Some-named.command ≢ Show = search rules in
     unbuilt c.in-Some-named.command later
     (ap (map string_bytes) parts ∙ ap (λ f. f ∷ later) (sym c.as_str.ensures.value ∙ c.in-Some-named.ensures.some))
-    (not_built c.in-Some-named.command c.in_default-command.not-Next c.in_default-command.not-Show)
+    (not_built c.in-Some-named.command none other)

@@ -1,21 +1,24 @@
 use Rattle.set_query.proofs.OutcomeLaws.{Reads, outcomes_are_unique, outcomes_exist, refusals_are_alone}
 use Rattle.set_query.proofs.laws.outcome_laws.Goals as goal
-use Rattle.set_query.proofs.laws.outcome_laws.Goals.{After-next_laws}
+use Rattle.set_query.proofs.laws.outcome_laws.Goals.{After-neighbour_laws}
 
-reads : (c : After-next_laws) → Reads
+reads : (c : After-neighbour_laws) → Reads
 reads c = record {
   exist = c.reading_laws.ensures.exist;
   unique = c.reading_laws.ensures.unique;
   well_formed = c.reading_laws.ensures.well_formed;
   sorted = c.reading_laws.ensures.sorted;
   lawful = c.tree_frame_laws.ensures.lawful;
+  settled = c.settle_laws.ensures.exist;
+  one = c.settle_laws.ensures.one;
+  apart = c.settle_laws.ensures.apart;
 }
 
 pub returns-clause-exist : goal.returns-clause-exist
-returns-clause-exist c = outcomes_exist (reads c) c.words_laws.ensures.exist c.next_laws.ensures.exist c.endless_laws.ensures
+returns-clause-exist c = outcomes_exist (reads c) c.words_laws.ensures.exist c.neighbour_laws.ensures.exist c.endless_laws.ensures.for_ever
 
 pub returns-clause-unique : goal.returns-clause-unique
-returns-clause-unique c = outcomes_are_unique (reads c) c.words_laws.ensures.unique c.next_laws.ensures.unique
+returns-clause-unique c = outcomes_are_unique (reads c) c.words_laws.ensures.unique c.neighbour_laws.ensures.unique
 
 pub returns-clause-alone : goal.returns-clause-alone
-returns-clause-alone c = refusals_are_alone (reads c) c.words_laws.ensures.unique c.next_laws.ensures.unique
+returns-clause-alone c = refusals_are_alone (reads c) c.words_laws.ensures.unique c.neighbour_laws.ensures.unique

@@ -1,0 +1,82 @@
+use Rattle.std.proofs.Common.{rules, ◌≡◌, refl}
+use Rattle.cert_audit.specs.Due.{IsDue}
+use Rattle.cert_audit.specs.Searches.{test_of}
+use Rattle.expr_tree.specs.Members.{is_member}
+use Rattle.moment_core.specs.Line.{position_of}
+use Rattle.moment_core.specs.declared.line.Dir.TheVariants.{Fore, Back}
+use Rattle.plan_core.specs.Plans.{meant_of_plan, window_of}
+use Rattle.query_core.specs.Answering.{PlacesOfClosest, PlacesOfCurrent, PlacesOfNext}
+use Rattle.query_core.specs.Endless.{IsForEver, IsForEverClosest, IsForEverCurrent}
+use Rattle.query_core.specs.Neighbours.{IsClosestRun, IsCurrentRun, IsNextRun}
+use Rattle.report_text.specs.Lines.{test_line}
+use Rattle.set_query.specs.Report.{Outcome, tested, told}
+use Rattle.set_query.proofs.PreparingLemmas.{searched_by, written_as}
+use Rattle.set_query.proofs.reporting.write_asked.Goals as goal
+
+pub returns-in-Next-clause-outcome : goal.returns-in-Next-clause-outcome
+returns-in-Next-clause-outcome g c =
+    let s = c.args.search.now in
+    let t = meant_of_plan s.plan in
+    let at = s.at.0 in
+    let near = c.next-near.result in
+    record {
+      outcome = told s.kind s.clock near;
+      as_asked =
+          rw c.in-Next.is (searched_by (IsNextRun (is_member t) (window_of t) Fore at) (IsForEver (is_member t) Fore (position_of at)) (PlacesOfNext (is_member t) Fore at) (IsDue t)
+          s.kind s.clock s.budget near c.next-near.ensures.answer c.next-near.ensures.for_ever c.next-near.ensures.complete);
+      written = c.write_near.ensures;
+    }
+
+pub returns-in-Previous-clause-outcome : goal.returns-in-Previous-clause-outcome
+returns-in-Previous-clause-outcome g c =
+    let s = c.args.search.now in
+    let t = meant_of_plan s.plan in
+    let at = s.at.0 in
+    let near = c.previous-near.result in
+    record {
+      outcome = told s.kind s.clock near;
+      as_asked =
+          rw c.in-Previous.is (searched_by (IsNextRun (is_member t) (window_of t) Back at) (IsForEver (is_member t) Back (position_of at)) (PlacesOfNext (is_member t) Back at) (IsDue t)
+          s.kind s.clock s.budget near c.previous-near.ensures.answer c.previous-near.ensures.for_ever c.previous-near.ensures.complete);
+      written = c.write_near-in-Previous.ensures;
+    }
+
+pub returns-in-Current-clause-outcome : goal.returns-in-Current-clause-outcome
+returns-in-Current-clause-outcome g c =
+    let s = c.args.search.now in
+    let t = meant_of_plan s.plan in
+    let at = s.at.0 in
+    let near = c.current-near.result in
+    record {
+      outcome = told s.kind s.clock near;
+      as_asked =
+          rw c.in-Current.is (searched_by (IsCurrentRun (is_member t) (window_of t) at) (IsForEverCurrent (is_member t) at) (PlacesOfCurrent (is_member t) at) (IsDue t)
+          s.kind s.clock s.budget near c.current-near.ensures.answer c.current-near.ensures.for_ever c.current-near.ensures.complete);
+      written = c.write_near-in-Current.ensures;
+    }
+
+pub returns-in-Closest-clause-outcome : goal.returns-in-Closest-clause-outcome
+returns-in-Closest-clause-outcome g c =
+    let s = c.args.search.now in
+    let t = meant_of_plan s.plan in
+    let at = s.at.0 in
+    let near = c.closest-near.result in
+    record {
+      outcome = told s.kind s.clock near;
+      as_asked =
+          rw c.in-Closest.is (searched_by (IsClosestRun (is_member t) (window_of t) at) (IsForEverClosest (is_member t) at) (PlacesOfClosest (is_member t) at) (IsDue t)
+          s.kind s.clock s.budget near c.closest-near.ensures.answer c.closest-near.ensures.for_ever c.closest-near.ensures.complete);
+      written = c.write_near-in-Closest.ensures;
+    }
+
+pub returns-in-Contains-clause-outcome : goal.returns-in-Contains-clause-outcome
+returns-in-Contains-clause-outcome g c =
+    let s = c.args.search.now in
+    let t = meant_of_plan s.plan in
+    let o : Outcome = record { status = 0; bytes = test_line (test_of (is_member t (position_of s.at.0))) } in
+    let line : c.bytes.result.now ≡ o.bytes = search rules in
+    record {
+      outcome = o;
+      as_asked = rw c.in-Contains.is tested;
+      written = written_as o 0 c.bytes.result.now refl line c.put.ensures;
+    }
