@@ -2,11 +2,14 @@
 _towhipae() {
   local word=${COMP_WORDS[COMP_CWORD]}
   if [ "$COMP_CWORD" -eq 1 ]; then
-    COMPREPLY=($(compgen -W 'next show --help --version' -- "$word"))
+    COMPREPLY=($(compgen -W 'next previous current closest contains show --help --version' -- "$word"))
     return
   fi
   case ${COMP_WORDS[1]} in
-    next) COMPREPLY=($(compgen -W 'at= budget=' -- "$word")); compopt -o nospace ;;
+    next | previous | current | closest | contains)
+      COMPREPLY=($(compgen -W 'at= budget=' -- "$word"))
+      compopt -o nospace
+      ;;
   esac
 }
 complete -F _towhipae towhipae
