@@ -2,12 +2,12 @@
 use Rattle.std.proofs.Common.{arith, ℕ, ◌<◌, ◌≤◌, ℤ, pos, ◌+ℤ◌, ◌-ℤ◌, ◌≤ℤ◌, Bool, Option, subst}
 use Rattle.std.proofs.lemmas.Int.{ints}
 use Rattle.moment_core.specs.Line.{IsCalendarPosition}
-use Rattle.moment_core.specs.Sets.{ahead}
+use Rattle.moment_core.specs.Sets.{ahead, IsUpTo}
 use Rattle.moment_core.specs.declared.line.Dir.{Dir}
 use Rattle.moment_core.specs.declared.line.Dir.TheVariants.{Fore, Back}
 use Rattle.moment_core.specs.declared.line.TheConstants.{REACH}
 use Rattle.moment_core.specs.declared.line.Window.{Window}
-use Rattle.span_core.specs.Answers.{IsFound, IsUpTo, counted_to, end_of}
+use Rattle.span_core.specs.Answers.{IsFound, counted_to, end_of}
 use Rattle.span_core.specs.Laws.{SearchesAreAnswered}
 use Rattle.span_core.specs.declared.answers.Answer.{Answer}
 use Rattle.span_core.specs.declared.answers.Answer.TheVariants as answers

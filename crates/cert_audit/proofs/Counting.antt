@@ -188,8 +188,8 @@ count_between-parts test a m b = elim (cases_sign (m +ℤ pos 1 -ℤ a)) [
 both_parts : (x y : Tree Meaning) (a m b : ℤ) → candidates x a b ≤ candidates x a m + candidates x (m +ℤ pos 1) b → candidates y a b ≤ candidates y a m + candidates y (m +ℤ pos 1) b → candidates x a b + candidates y a b ≤ candidates x a m + candidates y a m + (candidates x (m +ℤ pos 1) b + candidates y (m +ℤ pos 1) b)
 both_parts x y a m b h k = omega arith
 
--- a stretch has no more candidates than its two parts together, none where it ends before it begins, and no more than one
--- round it
+-- a stretch has no more candidates than its two parts together, none where it ends before it
+-- begins, and no more than one round it
 pub candidates-split : (t : Tree Meaning) (a m b : ℤ) → candidates t a b ≤ candidates t a m + candidates t (m +ℤ pos 1) b
 candidates-split Empty a m b = omega arith
 candidates-split (Spanned bounds low high) a m b = count_between-parts (bounds_at bounds) a m b

@@ -80,7 +80,8 @@ leaf_below leaf m most a b here there =
     let all = by_days leaf m most days_of_working_range first_working_day is_working in
     omega arith
 
--- a tree has at most the candidates of one leaf on all days, as often as it has copies, where it looks no farther than they go
+-- a tree has at most the candidates of one leaf on all days, as often as it has copies, where it
+-- looks no farther than they go
 below : (tree : Tree Meaning) (m : ℕ) → IsMost tree m → (a b : ℤ) → IsDeep (reach_of tree) a → IsDeep (reach_of tree) b → candidates tree a b ≤ copies_of tree * on_all_days m
 below Empty m most a b here there = let one = leaf_below Empty m (most Empty refl) a b here there in omega arith
 below (Spanned bounds low high) m most a b here there =

@@ -1,5 +1,5 @@
 -- Every tree repeats by its frame.
-use Rattle.std.proofs.Common.{◌≡◌, refl, sym, ◌∙◌, arith, ℤ, pos, ◌+ℤ◌, ◌-ℤ◌, ◌≤ℤ◌, Bool, true, false, not, List, [], ◌∷◌, Option, Some, None, int_le, lit≤}
+use Rattle.std.proofs.Common.{◌≡◌, refl, sym, ◌∙◌, arith, ℤ, pos, ◌+ℤ◌, ◌-ℤ◌, ◌≤ℤ◌, Bool, true, false, not, List, [], ◌∷◌, Option, Some, None, lit≤}
 use Rattle.std.proofs.lemmas.Bool.{and_from, and_left, and_right}
 use Rattle.std.proofs.lemmas.Int.{ints}
 use Rattle.moment_core.specs.declared.line.Pos.{Pos}
@@ -18,6 +18,7 @@ use Rattle.expr_tree.specs.Tree.{Listed, Field, Ical, Tree, Empty, Spanned, Rule
 use Rattle.field_rules.specs.Laws.{CheckedRulesRepeat}
 use Rattle.ical_rules.specs.Laws.{CheckedIcalRulesRepeat}
 use Rattle.moment_core.specs.Sets.{moments_in}
+use Rattle.moment_core.proofs.Comparing.{le-int_le, lt-int_le}
 use Rattle.cert_audit.specs.Lawful.{AreLawful, IsLawful}
 use Rattle.cert_audit.specs.Laws.{WellFormedAreLawful}
 use Rattle.cert_audit.proofs.Listing.{earliest-is, latest-is, met_nowhere}
@@ -38,25 +39,19 @@ list_repeats constant (stamp ∷ stamps) =
     (λ p h. met_nowhere has p (λ t e. (latest-is stamp stamps).1 t (omega (arith, ints))))
     (λ p h. met_nowhere has p (λ t e. (earliest-is stamp stamps).1 t (omega (arith, ints))))
 
-int_le-no : (a b : ℤ) → (b +ℤ pos 1) ≤ℤ a → int_le a b ≡ false
-int_le-no a b h = grind (arith, ints)
-
-int_le-yes : (a b : ℤ) → a ≤ℤ b → int_le a b ≡ true
-int_le-yes a b h = grind (arith, ints)
-
 span_repeats_at : ConstantSetsRepeat → LowBoundsBegin → HighBoundsEnd → (low high : Bound) (first last : Option Pos) → first_from low ≡ first → last_to high ≡ last → Repeats (λ p. lies_between low high p) (frame_from (span_hi first last) (span_lo first last))
 span_repeats_at constant lows highs low high (Some first) (Some last) e f =
     repeats_unchanged constant (λ p. lies_between low high p) (last.0 +ℤ pos 1) (first.0 -ℤ pos 1) false false
-    (λ p h. and_right (reaches low p) (ends_after high p) ((highs high).0 last f p ∙ int_le-no p last.0 h))
-    (λ p h. and_left (reaches low p) (ends_after high p) ((lows low).0 first e p ∙ int_le-no first.0 p (omega (arith, ints))))
+    (λ p h. and_right (reaches low p) (ends_after high p) ((highs high).0 last f p ∙ lt-int_le p last.0 (omega (arith, ints, h))))
+    (λ p h. and_left (reaches low p) (ends_after high p) ((lows low).0 first e p ∙ lt-int_le first.0 p (omega (arith, ints))))
 span_repeats_at constant lows highs low high (Some first) None e f =
     repeats_unchanged constant (λ p. lies_between low high p) first.0 (first.0 -ℤ pos 1) true false
-    (λ p h. and_from (reaches low p) (ends_after high p) ((lows low).0 first e p ∙ int_le-yes first.0 p h) ((highs high).1 f p))
-    (λ p h. and_left (reaches low p) (ends_after high p) ((lows low).0 first e p ∙ int_le-no first.0 p (omega (arith, ints))))
+    (λ p h. and_from (reaches low p) (ends_after high p) ((lows low).0 first e p ∙ le-int_le first.0 p h) ((highs high).1 f p))
+    (λ p h. and_left (reaches low p) (ends_after high p) ((lows low).0 first e p ∙ lt-int_le first.0 p (omega (arith, ints))))
 span_repeats_at constant lows highs low high None (Some last) e f =
     repeats_unchanged constant (λ p. lies_between low high p) (last.0 +ℤ pos 1) last.0 false true
-    (λ p h. and_right (reaches low p) (ends_after high p) ((highs high).0 last f p ∙ int_le-no p last.0 h))
-    (λ p h. and_from (reaches low p) (ends_after high p) ((lows low).1 e p) ((highs high).0 last f p ∙ int_le-yes p last.0 h))
+    (λ p h. and_right (reaches low p) (ends_after high p) ((highs high).0 last f p ∙ lt-int_le p last.0 (omega (arith, ints, h))))
+    (λ p h. and_from (reaches low p) (ends_after high p) ((lows low).1 e p) ((highs high).0 last f p ∙ le-int_le p last.0 h))
 span_repeats_at constant lows highs low high None None e f =
     repeats_unchanged constant (λ p. lies_between low high p) bottom top true true
     (λ p h. and_from (reaches low p) (ends_after high p) ((lows low).1 e p) ((highs high).1 f p))

@@ -5,38 +5,29 @@ use Rattle.std.proofs.lemmas.Int.{ints}
 use Rattle.std.specs.Ordering.{int_eq}
 use Rattle.moment_core.proofs.FloorLemmas.{floor_arith}
 use Rattle.moment_core.specs.Line.{IsCalendarPosition, IsWorkingMoment, moment_of, position_of}
-use Rattle.moment_core.specs.Sets.{ahead, moments_in, seen}
+use Rattle.moment_core.specs.Sets.{ahead, moments_in, seen, IsUpTo}
 use Rattle.moment_core.specs.Steps.{IsNextStep}
 use Rattle.moment_core.specs.declared.line.Dir.{Dir}
 use Rattle.moment_core.specs.declared.line.Dir.TheVariants.{Fore, Back}
 use Rattle.moment_core.specs.declared.line.Pos.{Pos}
 use Rattle.moment_core.specs.declared.line.Step.{Step}
 use Rattle.moment_core.specs.declared.line.Step.TheVariants.{Hit, Pass, End}
-use Rattle.moment_core.proofs.LineLaws.{halves}
+use Rattle.moment_core.proofs.LineLaws.{halves, moment-of-position}
+use Rattle.moment_core.proofs.Comparing.{int_eq-refl, int_eq-below}
 use Rattle.stored_pair.specs.Recurrences.{AreCandidates, NoneUpTo, SkipsNone}
-use Rattle.span_core.specs.Answers.{IsUpTo}
-use Rattle.cert_audit.specs.Turns.{IsTurn, IsWorkingStep, StandsIfCounted, candidate_at, is_past, turn_of_step, turn_up_to}
+use Rattle.cert_audit.specs.Turns.{IsTurn, StandsIfCounted, candidate_at, is_past, turn_of_step, turn_up_to}
 use Rattle.cert_audit.proofs.Turning.{not_past}
-
-int_eq-refl : (a : ℤ) → int_eq a a ≡ true
-int_eq-refl a = grind (arith, ints)
-
-int_eq-apart : (a b : ℤ) → a <ℤ b → int_eq a b ≡ false
-int_eq-apart a b h = grind (arith, ints)
-
-moment-even : (u : ℤ) → moment_of (position_of u) ≡ u
-moment-even u = omega (arith, floor_arith)
 
 -- at a moment's position, and at an open second
 pub met-even : (f : ℤ → Bool) (p u : ℤ) → p ≡ position_of u → moments_in f p ≡ f u
 met-even f p u e =
     let P : ℤ → Type 0 = λ z. moments_in f z ≡ f u in
     let at : moments_in f (position_of u) ≡ f u =
-    ap (λ z. int_eq (position_of z) (position_of u) && f z) (moment-even u) ∙ ap (λ b. b && f u) (int_eq-refl (position_of u)) in
+    ap (λ z. int_eq (position_of z) (position_of u) && f z) (moment-of-position u) ∙ ap (λ b. b && f u) (int_eq-refl (position_of u)) in
     subst P (sym e) at
 
 pub met-odd : (f : ℤ → Bool) (p : ℤ) → position_of (moment_of p) <ℤ p → moments_in f p ≡ false
-met-odd f p h = and_left (int_eq (position_of (moment_of p)) p) (f (moment_of p)) (int_eq-apart (position_of (moment_of p)) p h)
+met-odd f p h = and_left (int_eq (position_of (moment_of p)) p) (f (moment_of p)) (int_eq-below (position_of (moment_of p)) p h)
 
 -- no member at a position whose moment is none
 pub met-none : (f : ℤ → Bool) (p : ℤ) → f (moment_of p) ≡ false → moments_in f p ≡ false
@@ -45,7 +36,8 @@ met-none f p none = elim (cases_lt 0 (unsigned_abs (p -ℤ position_of (moment_o
   | inr even ↦ let near = halves p in met-even f p (moment_of p) (omega (arith, ints)) ∙ none
 ]
 
--- the set stays the same for n steps, and the place after them is a turn where it isn't past the end
+-- the set stays the same for n steps, and the place after them is a turn where it isn't past the
+-- end
 steps_before : (dir : Dir) (p q end : ℤ) (n k : ℕ) → q ≡ ahead dir p (n + 1) → is_past dir q end ≡ true → IsUpTo dir end (ahead dir p k) → k ≤ n
 steps_before Fore p q end n k e past near = let beyond : end <ℤ q = grind (arith, ints) in omega (arith, ints)
 steps_before Back p q end n k e past near = let beyond : q <ℤ end = grind (arith, ints) in omega (arith, ints)
@@ -81,7 +73,7 @@ turn_down has p u place end e past none =
 
 -- a candidate stands at its own position
 stands : (cand : ℤ → Bool) (dir : Dir) (u : ℤ) → cand u ≡ true → moments_in cand (candidate_at dir (position_of u)) ≡ true
-stands cand Fore u met = met-even cand (position_of (moment_of (position_of u))) u (ap position_of (moment-even u)) ∙ met
+stands cand Fore u met = met-even cand (position_of (moment_of (position_of u))) u (ap position_of (moment-of-position u)) ∙ met
 stands cand Back u met =
     let same : position_of (moment_of (position_of u +ℤ pos 1)) ≡ position_of u = omega (arith, floor_arith) in
     met-even cand (position_of (moment_of (position_of u +ℤ pos 1))) u same ∙ met

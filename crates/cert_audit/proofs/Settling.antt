@@ -1,5 +1,5 @@
 -- Counts that are settled, and the first one that isn't.
-use Rattle.std.proofs.Common.{◌≡◌, ◌⊎◌, ℤ, inl, inr, arith, lit≤, Option, Some, None, Result, Ok, Err, sym, ap}
+use Rattle.std.proofs.Common.{◌≡◌, ◌⊎◌, ℤ, inl, inr, lit≤, Option, Some, None, Result, Ok, Err}
 use Rattle.ical_rules.specs.Settling.{IsSettling, IsSettlingBy, OutcomesAreOne, OutcomesExist}
 use Rattle.ical_rules.specs.declared.outcome.Settled.{Settled}
 use Rattle.ical_rules.specs.declared.outcome.Unsettled.{Unsettled}
@@ -7,7 +7,6 @@ use Rattle.moment_core.specs.Line.{IsWorkingMoment}
 use Rattle.moment_core.specs.declared.joining.Op.{Op}
 use Rattle.rule_core.specs.declared.ical.IcalRule.{IcalRule}
 use Rattle.expr_tree.specs.Tree.{Rule, Listed, Field, Ical, Tree, Empty, Spanned, Ruled, Joined, Not}
-use Rattle.expr_tree.specs.WellFormed.{IsWellFormed}
 use Rattle.cert_audit.specs.Laws.{FirstUnsettledIsOne, SettledHaveNone, TreesSettleOrNot, UnsettledAreWorking}
 use Rattle.cert_audit.specs.Settling.{AreSettled, IsFaultOf, IsFirstUnsettled}
 use Rattle.cert_audit.specs.declared.lowering.PlanFault.{PlanFault}

@@ -5,15 +5,17 @@ use Rattle.std.proofs.lemmas.Bool.{and_parts, cases_lt, cases_order, or_cases}
 use Rattle.std.proofs.lemmas.Int.{ints}
 use Rattle.std.specs.Ordering.{int_eq}
 use Rattle.moment_core.specs.Line.{IsCalendarPosition}
-use Rattle.moment_core.specs.Sets.{ahead, seen, IsNextChange}
+use Rattle.moment_core.specs.Sets.{ahead, seen, IsNextChange, IsUpTo}
 use Rattle.moment_core.specs.declared.line.Dir.{Dir}
 use Rattle.moment_core.specs.declared.line.Dir.TheVariants.{Fore, Back}
 use Rattle.moment_core.specs.declared.line.Pos.{Pos}
 use Rattle.moment_core.specs.declared.line.Window.{Window}
-use Rattle.span_core.specs.Answers.{IsAnswer, IsFound, IsUpTo, counted_to, end_of}
+use Rattle.span_core.specs.Answers.{IsAnswer, IsFound, counted_to, end_of}
 use Rattle.span_core.specs.declared.answers.Answer.{Answer}
 use Rattle.span_core.specs.declared.answers.Answer.TheVariants.{At, None as Never, Edge, Budget}
 use Rattle.moment_core.proofs.LineLaws.{ahead-ahead, ahead-zero, halves, seen-zero}
+use Rattle.moment_core.proofs.Order.{steps_in_order}
+use Rattle.moment_core.proofs.Truths.{not_both}
 use Rattle.frame_core.specs.Frames.{window_if_framed}
 use Rattle.frame_core.specs.declared.frames.Frame.{Frame}
 use Rattle.frame_core.specs.Laws.{IsWindowPast, WindowsKeep, WindowsLie}
@@ -246,14 +248,6 @@ nothing_differs keep period repeats t law None dir p end place passed answer e f
     let Q : Answer → Type 0 = λ a. IsFound (is_member t) (window_if_framed (frame_of_tree t) dir p) dir p a in
     let stays = subst P f (stays_to_end t dir p end place passed v none) in
     subst Q (sym is) ((λ k h. stays k (up_to_range dir (ahead dir p k) h)), sym e)
-
-steps_in_order : (dir : Dir) (p : ℤ) (m n : ℕ) → m ≤ n → IsUpTo dir (ahead dir p n) (ahead dir p m)
-steps_in_order Fore p m n h = omega (arith, ints)
-steps_in_order Back p m n h = omega (arith, ints)
-
-not_both : (x : Bool) → x ≡ not x → ⊥
-not_both true e = cc
-not_both false e = cc
 
 -- a place up to which nothing differs is not past the answer
 before_answer : (set : ℤ → Bool) (window : Option Window) (dir : Dir) (p end place : ℤ) (n : ℕ) → place ≡ ahead dir p n → ((k : ℕ) → k ≤ n → seen set dir p k ≡ set p) → end ≡ end_of dir (unchanged window) → IsUpTo dir end place → (a : Answer) → IsFound set window dir p a → IsUpTo dir (end_of dir a) place

@@ -3,15 +3,15 @@ use Rattle.std.proofs.Common.{◌≡◌, refl, ap, sym, subst, ◌∙◌, arith,
 use Rattle.std.proofs.lemmas.Int.{ints}
 use Rattle.std.specs.Ordering.{int_eq}
 use Rattle.moment_core.specs.Line.{moment_of, position_of}
-use Rattle.moment_core.specs.Sets.{ahead, seen}
+use Rattle.moment_core.specs.Sets.{ahead, seen, IsUpTo}
 use Rattle.moment_core.specs.declared.line.Dir.{Dir}
 use Rattle.moment_core.specs.declared.line.Dir.TheVariants.{Fore, Back}
 use Rattle.moment_core.specs.declared.line.Pos.{Pos}
-use Rattle.span_core.specs.Answers.{IsUpTo}
 use Rattle.span_core.specs.Bounds.{ends_after, first_from, last_to, reaches}
 use Rattle.span_core.specs.declared.bounds.Bound.{Bound}
 use Rattle.span_core.specs.declared.bounds.Bound.TheVariants.{Closed, Open, Inf, Edge}
 use Rattle.moment_core.proofs.LineLaws.{halves}
+use Rattle.moment_core.proofs.Comparing.{lt-int_le, le-int_le}
 use Rattle.span_core.specs.Laws.{HighBoundsEnd, LowBoundsBegin}
 use Rattle.cert_audit.specs.Candidates.{is_bound_at}
 use Rattle.cert_audit.specs.Turns.{IsTurn, StandsIfCounted, TurnsAfter, candidate_at, crossed, is_past, nearer_turn}
@@ -74,15 +74,6 @@ module _ (f g : ℤ → Bool) (op : Bool → Bool → Bool) (dir : Dir) (p end :
       by_order false past =
           by_place (is_past dir b.place.0 a.place.0) refl (steps_up_to dir p a.place.0 b.place.0 r.0 s.0 r.1.place s.1.place past)
 
-int_le-no : (a b : ℤ) → b <ℤ a → int_le a b ≡ false
-int_le-no a b h = grind (arith, ints)
-
-int_le-yes : (a b : ℤ) → a ≤ℤ b → int_le a b ≡ true
-int_le-yes a b h = grind (arith, ints)
-
-int_eq-refl : (a : ℤ) → int_eq a a ≡ true
-int_eq-refl a = grind (arith, ints)
-
 abbrev pub from_on : ℤ → ℤ → Bool
 from_on first q = int_le first q
 
@@ -100,14 +91,14 @@ steps_across first p Fore h =
     let below : p <ℤ first = grind (arith, ints) in (
       n,
       omega (arith, ints),
-      λ k b. int_le-no first (p +ℤ pos k) (omega (arith, ints)) ∙ sym (int_le-no first p below),
+      λ k b. lt-int_le first (p +ℤ pos k) (omega (arith, ints)) ∙ sym (lt-int_le first p below),
     )
 steps_across first p Back h =
     let n = unsigned_abs (p -ℤ first) in
     let above : first ≤ℤ p = grind (arith, ints) in (
       n,
       omega (arith, ints),
-      λ k b. int_le-yes first (p -ℤ pos k) (omega (arith, ints)) ∙ sym (int_le-yes first p above),
+      λ k b. le-int_le first (p -ℤ pos k) (omega (arith, ints)) ∙ sym (le-int_le first p above),
     )
 
 pub crossing_turns : (first p end : ℤ) (dir : Dir) (turn : Turn) → turn.place.0 ≡ crossed first dir → is_past dir turn.place.0 p ≡ true → is_past dir turn.place.0 end ≡ false → IsTurn (from_on first) dir p end (Some turn)

@@ -1,9 +1,7 @@
 -- Rules whose members repeat as their frame says.
-use Rattle.std.specs.Prelude.{◌≡◌, ◌*◌, ℤ, pos, ◌+ℤ◌, ◌-ℤ◌, ◌≤ℤ◌, Bool, Option, Some, None}
 use Rattle.std.proofs.Props.{props}
 use mathlib.Core.HLevel.{×_prop}
-use Rattle.frame_core.specs.Frames.{HasPeriod, Repeats, RepeatsIfFramed}
-use Rattle.frame_core.specs.declared.frames.Frame.{Frame}
+use Rattle.frame_core.specs.Frames.{HasPeriod, RepeatsIfFramed, HasPeriod-prop, RepeatsIfFramed-prop}
 use Rattle.moment_core.specs.Sets.{moments_in}
 use Rattle.stored_pair.specs.Meanings.{Meaning}
 use Rattle.expr_tree.specs.Tree.{Tree, Empty, Spanned, Ruled, Joined, Not}
@@ -21,21 +19,6 @@ AreLawful (Joined op a b) = AreLawful a × AreLawful b
 AreLawful (Not a) = AreLawful a
 
 -- a tree is lawful in one way at most, so that a tree made ready can hold that it is
-HasPeriod-prop : (o : Option Frame) → IsProp (HasPeriod o)
-HasPeriod-prop None = hlevel props
-HasPeriod-prop (Some frame) = hlevel props
-
-Repeats-prop : (set : ℤ → Bool) (frame : Frame) → IsProp (Repeats set frame)
-Repeats-prop set frame x y =
-    let up : IsProp ((p : ℤ) → frame.hi.0 ≤ℤ p → set (p +ℤ pos (2 * frame.period)) ≡ set p) =
-    hlevel props in
-    let down : IsProp ((p : ℤ) → p ≤ℤ frame.lo.0 → set (p -ℤ pos (2 * frame.period)) ≡ set p) =
-    hlevel props in
-    λ i. record { upwards = up x.upwards y.upwards i; downwards = down x.downwards y.downwards i }
-
-RepeatsIfFramed-prop : (set : ℤ → Bool) (o : Option Frame) → IsProp (RepeatsIfFramed set o)
-RepeatsIfFramed-prop set None = hlevel props
-RepeatsIfFramed-prop set (Some frame) = Repeats-prop set frame
 
 IsLawful-prop : (rule : Meaning) → IsProp (IsLawful rule)
 IsLawful-prop rule x y = λ i. record {

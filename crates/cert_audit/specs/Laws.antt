@@ -70,17 +70,21 @@ EnoughNeverStops =
     (tree : Tree Meaning) (dir : Dir) (p : ℤ) (budget : ℕ) → IsCalendarPosition p
     → IsAboveSearch tree dir p budget → (s : Stop) → IsDue tree dir p budget s → ⊥
 
--- the counts of a well-formed tree are settled, or one of its rules is the first for which that fails
+-- the counts of a well-formed tree are settled, or one of its rules is the first for which that
+-- fails
 abbrev pub TreesSettleOrNot : Type 0
-TreesSettleOrNot = (t : Tree Rule) → IsWellFormed t → AreSettled t ⊎ ((u : Unsettled) × IsFirstUnsettled t u)
+TreesSettleOrNot =
+    (t : Tree Rule) → IsWellFormed t → AreSettled t ⊎ ((u : Unsettled) × IsFirstUnsettled t u)
 
 -- and not both
 abbrev pub SettledHaveNone : Type 0
 SettledHaveNone = (t : Tree Rule) (u : Unsettled) → AreSettled t → IsFirstUnsettled t u → ⊥
 
 abbrev pub FirstUnsettledIsOne : Type 0
-FirstUnsettledIsOne = (t : Tree Rule) (u v : Unsettled) → IsFirstUnsettled t u → IsFirstUnsettled t v → u ≡ v
+FirstUnsettledIsOne =
+    (t : Tree Rule) (u v : Unsettled) → IsFirstUnsettled t u → IsFirstUnsettled t v → u ≡ v
 
 -- the last candidate that was passed lies in the working range
 abbrev pub UnsettledAreWorking : Type 0
-UnsettledAreWorking = (t : Tree Rule) (u : Unsettled) → IsFirstUnsettled t u → IsWorkingMoment u.at.0
+UnsettledAreWorking =
+    (t : Tree Rule) (u : Unsettled) → IsFirstUnsettled t u → IsWorkingMoment u.at.0

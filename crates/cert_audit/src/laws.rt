@@ -28,8 +28,8 @@ pub fn tree_frame_laws()
     frame_laws();
 }
 
-/// The counts of a well-formed tree are settled, or one rule is the first for which that fails, and not both. The candidate that it
-/// passed last lies in the working range.
+/// The counts of a well-formed tree are settled, or one rule is the first for which that fails, and
+/// not both. The candidate that it passed last lies in the working range.
 pub fn settle_laws()
     ensures exist { TreesSettleOrNot }
     ensures apart { SettledHaveNone }
@@ -39,8 +39,9 @@ pub fn settle_laws()
     settling_laws();
 }
 
-/// A stretch has no more candidates than its two parts, none where it ends before it begins, and no more than one round it. The
-/// positions at which a candidate stands are no more than the candidates.
+/// A stretch has no more candidates than its two parts, none where it ends before it begins, and no
+/// more than one round it. The positions at which a candidate stands are no more than the
+/// candidates.
 pub fn candidate_laws()
     ensures parts { PartsHaveAll }
     ensures none { NoneBackwards }

@@ -64,10 +64,12 @@ impl<'b> Ready<'b> {
     ghost use Rattle.cert_audit.specs.Searches.{test_of};
     ghost use Rattle.cert_audit.specs.Settling.{AreSettled, IsFaultOf};
 
-    /// Copies the tree and makes its leaves ready, with the last member of each rule that has a COUNT.
+    /// Copies the tree and makes its leaves ready, with the last member of each rule that has a
+    /// COUNT.
     ///
-    /// `Settle` comes exactly where a rule has more than `SETTLE_LIMIT` candidates, its COUNT put aside, and fewer members
-    /// than its COUNT among the first so many of them. The first such rule of the tree decides, left before right.
+    /// `Settle` comes exactly where a rule has more than `SETTLE_LIMIT` candidates, its COUNT put
+    /// aside, and fewer members than its COUNT among the first so many of them. The first such rule
+    /// of the tree decides, left before right.
     pub fn make(alloc: Global, e: &Expr, book: &'b Book) -> Result<Ready<'b>, PlanFault>
         requires { CanBeReady (tree_of e.now) }
         ensures meant { IfOk result

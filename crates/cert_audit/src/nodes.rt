@@ -33,7 +33,8 @@ pub(crate) enum Node {
 }
 
 impl Node {
-    /// A copy of the tree with its counts settled, over the book whose entries it may name. No form names one yet.
+    /// A copy of the tree with its counts settled, over the book whose entries it may name. No form
+    /// names one yet.
     #[tactic(auto, using(crate::proofs::Settling::fault_of_first, crate::proofs::Settling::fault_of_second))]
     pub(crate) fn lower(alloc: Global, e: &Expr, book: &Book) -> Result<Node, PlanFault>
         requires { IsWellFormed (tree_of e.now) }

@@ -11,6 +11,7 @@ use Rattle.moment_core.specs.Calendar.{day_number, is_leap, month_len, weekday_o
 use Rattle.moment_core.specs.Line.{IsWorkingMoment}
 use Rattle.moment_core.specs.TimeOfDay.{seconds_of}
 use Rattle.moment_core.specs.Units.{from_end, is_nth, nth_of}
+use Rattle.moment_core.proofs.Comparing.{int_eq-is}
 use Rattle.civil_core.specs.Nths.{IsNthDay}
 use Rattle.civil_core.proofs.WorkingDays.{IsYear-of_civil}
 
@@ -61,9 +62,6 @@ is_nth-at_place n len first count k h below last past =
     let up : nth_of (first + 7 * k) ≡ k + 1 = omega arith in
     let down : nth_of (from_end len (first + 7 * k)) ≡ count - k = omega arith in
     rw (up, down) refl
-
-int_eq-is : (a b : ℤ) → int_eq a b ≡ true → a ≡ b
-int_eq-is a b e = grind (arith, ints)
 
 -- an ordinal has one place
 same_place : (n : ℤ) (count k place : ℕ) → k < count → place < count → at_place n count k ≡ true → at_place n count place ≡ true → k ≡ place

@@ -13,8 +13,8 @@ type Row = (
     (u8, i32, u8),
 );
 
-/// From python3's `datetime`, with its `isocalendar` where weeks begin on Monday; a year outside 1 to 9999 by the date that
-/// is a whole number of 400 years, each of 146,097 days, away from it.
+/// From python3's `datetime`, with its `isocalendar` where weeks begin on Monday; a year outside 1
+/// to 9999 by the date that is a whole number of 400 years, each of 146,097 days, away from it.
 const ROWS: &[Row] = &[
     (
         0,

@@ -1,10 +1,11 @@
 -- A lowered rule means what the rule means.
-use Rattle.std.proofs.Common.{◌≡◌, Bool, true, false, ◌&&◌, refl, ap, ◌∙◌, ℤ, Option}
+use Rattle.std.proofs.Common.{◌≡◌, Bool, refl, ap, ◌∙◌, ℤ, Option}
 use Rattle.std.proofs.Math.Path.{fun_ext}
 use Rattle.frame_core.specs.Periods.{in_width, period_of_rule}
 use Rattle.frame_core.specs.declared.frames.Frame.{Frame}
 use Rattle.moment_core.specs.TimeOfDay.{day_of}
 use Rattle.moment_core.specs.Units.{units_of}
+use Rattle.field_rules.proofs.TestLemmas.{and_true}
 use Rattle.rule_core.specs.FieldMembers.{field_unit, has_field, is_field_candidate, meets_fields}
 use Rattle.rule_core.specs.declared.field.FieldRule.{FieldRule}
 use Rattle.sieve_core.specs.Members.{is_between, is_candidate, is_mark, meets_interval, meets_rank, meets_rule, meets_tests}
@@ -15,10 +16,6 @@ use Rattle.field_rules.specs.Leaves.{IsWholeSieve, frame_of_rule, framed_everywh
 use Rattle.field_rules.specs.Lowered.{IsSieveOfRule, meaning_of_leaf}
 use Rattle.field_rules.specs.Rules.{frame_of_field, meaning_of_field}
 use Rattle.field_rules.specs.declared.leaf.FieldLeaf.{FieldLeaf}
-
-and_true : (b : Bool) → (b && true) ≡ b
-and_true true = refl
-and_true false = refl
 
 module _ (r : FieldRule) (s : Sieve) (is : IsSieveOfRule r s) where
   tests_same : (t : ℤ) → meets_tests s t ≡ meets_fields r t

@@ -1,14 +1,12 @@
 -- The laws of a recurrence for a sieve of the whole working range.
-use Rattle.std.proofs.Common.{inl, inr, ◌≡◌, ℕ, ◌*◌, ◌≤◌, Bool, true, ◌&&◌, refl, sym, ap, ◌∙◌, arith, ℤ, pos, ◌+ℤ◌, ◌-ℤ◌, Some, None, nat_le}
+use Rattle.std.proofs.Common.{inl, inr, ◌≡◌, ℕ, ◌*◌, ◌≤◌, Bool, true, refl, sym, ap, ◌∙◌, arith, ℤ, pos, ◌+ℤ◌, ◌-ℤ◌, Some, None, nat_le}
 use Rattle.std.proofs.lemmas.Bool.{cases_Bool, leb-true}
 use Rattle.std.proofs.lemmas.Int.{ints}
-use Rattle.std.specs.Ordering.{int_eq}
 use Rattle.frame_core.specs.Frames.{Repeats}
 use Rattle.frame_core.specs.Laws.{RulesComeRound}
 use Rattle.frame_core.specs.Periods.{in_width, period_of_rule}
 use Rattle.frame_core.specs.declared.frames.Frame.{Frame}
-use Rattle.moment_core.proofs.FloorLemmas.{floor_arith}
-use Rattle.moment_core.specs.Line.{IsWorkingMoment, moment_of, position_of}
+use Rattle.moment_core.specs.Line.{IsWorkingMoment}
 use Rattle.moment_core.specs.Sets.{moments_in}
 use Rattle.moment_core.specs.Steps.{IsNextStep}
 use Rattle.moment_core.specs.declared.line.Dir.{Dir}
@@ -18,6 +16,7 @@ use Rattle.moment_core.specs.declared.line.TheConstants.{WIDTH}
 use Rattle.sieve_core.specs.Laws.{MembersAreCandidates, RulesDecideBetween, RulesRepeat}
 use Rattle.sieve_core.specs.Members.{has, is_candidate, meets_rule}
 use Rattle.moment_core.specs.Units.{units_of}
+use Rattle.moment_core.proofs.LineLaws.{earlier-back, moments_in-later}
 use Rattle.sieve_core.specs.declared.tables.Sieve.{Sieve}
 use Rattle.field_rules.specs.Leaves.{IsWholeSieve}
 
@@ -50,30 +49,12 @@ in_width-is n p e = elim (cases_Bool (nat_le n WIDTH)) [
   | inr past ↦ absurd (let none : Some p ≡ None = e ∙ rw past refl in cc)
 ]
 
--- as positions
-int_eq-later : (a b c d : ℤ) (n : ℕ) → c ≡ a +ℤ pos n → d ≡ b +ℤ pos n → int_eq c d ≡ int_eq a b
-int_eq-later a b c d n x y = rw (x, y) (grind (arith, ints))
-
-moments_in-later : (f : ℤ → Bool) (p : ℤ) (n : ℕ) → ((t : ℤ) → f (t +ℤ pos n) ≡ f t) → moments_in f (p +ℤ pos (2 * n)) ≡ moments_in f p
-moments_in-later f p n same =
-    let moment : moment_of (p +ℤ pos (2 * n)) ≡ moment_of p +ℤ pos n = omega (arith, floor_arith) in
-    let place : position_of (moment_of (p +ℤ pos (2 * n))) ≡ position_of (moment_of p) +ℤ pos (2 * n) = omega (arith, floor_arith) in
-    let even : int_eq (position_of (moment_of (p +ℤ pos (2 * n)))) (p +ℤ pos (2 * n)) ≡ int_eq (position_of (moment_of p)) p = int_eq-later (position_of (moment_of p)) p _ _ (2 * n) place refl in
-    let member : f (moment_of (p +ℤ pos (2 * n))) ≡ f (moment_of p) = ap f moment ∙ same (moment_of p) in
-    both_same even member
-  where
-    both_same : {a b c d : Bool} → a ≡ b → c ≡ d → (a && c) ≡ (b && d)
-    both_same x y = cc
-
-earlier-back : (p : ℤ) (n : ℕ) → (p -ℤ pos n) +ℤ pos n ≡ p
-earlier-back p n = omega (arith, ints)
-
 -- a set of moments that is the same a period later repeats by each frame of that period
 pub repeats-by : (f : ℤ → Bool) (frame : Frame) → ((t : ℤ) → f (t +ℤ pos frame.period) ≡ f t) → Repeats (moments_in f) frame
 repeats-by f frame same = record {
-  upwards = λ p above. moments_in-later f p frame.period same;
+  upwards = λ p above. moments_in-later f p frame.period (λ t at. same t);
   downwards = λ p below.
-      sym (moments_in-later f (p -ℤ pos (2 * frame.period)) frame.period same) ∙ ap (moments_in f) (earlier-back p (2 * frame.period));
+      sym (moments_in-later f (p -ℤ pos (2 * frame.period)) frame.period (λ t at. same t)) ∙ ap (moments_in f) (earlier-back p (2 * frame.period));
 }
 
 pub rule-repeats : RulesComeRound → RulesRepeat → (s : Sieve) (frame : Frame) → IsWholeSieve s → frame.period ≡ period_of_rule (units_of s.unit) s.interval → Repeats (moments_in (meets_rule s)) frame

@@ -95,7 +95,7 @@ tables_meet holds table alone c r d is day =
     let days_at = alone d.week_days d.nth d.nth_in_month day is.nth ∙ is.week_days (weekday_of day) (weekday_within day) in
     rw (is.first, months_at, weeks_at, year_at, month_at, days_at) refl
 
-and_true : (b : Bool) → (b && true) ≡ b
+pub and_true : (b : Bool) → (b && true) ≡ b
 and_true true = refl
 and_true false = refl
 

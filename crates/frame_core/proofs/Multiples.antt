@@ -124,8 +124,8 @@ least_common-positive a b some other =
     let part : 0 < b / g = divisor_positive (b / g) b divides other in
     rw (least_common-right a b some) (omega (arith, le-mul_of_pos_right a part))
 
--- it divides each common multiple n: with m the greatest common divisor of n and a * b, which a and b divide,
--- a * b is m * d for a common divisor d of a and b
+-- it divides each common multiple n: with m the greatest common divisor of n and a * b, which a and
+-- b divide, a * b is m * d for a common divisor d of a and b
 least_common-divides : (a b n : ℕ) → 0 < a → 0 < b → a ∣ n → b ∣ n → least_common a b ∣ n
 unfolding least_common
 least_common-divides a b n some other x y =

@@ -4,16 +4,16 @@ use Rattle.std.proofs.Math.Nat.{mul-div_cancel', mul_assoc, mul_comm, suc-mul}
 use Rattle.std.proofs.lemmas.Bool.{cases_lt, leb-true}
 use Rattle.std.proofs.lemmas.Int.{clamps, ints}
 use Rattle.std.specs.Int.{int_max, int_min, ◌∣◌}
-use Rattle.moment_core.specs.Sets.{ahead, seen}
+use Rattle.moment_core.specs.Sets.{ahead, seen, IsUpTo}
 use Rattle.moment_core.specs.declared.line.Dir.{Dir}
 use Rattle.moment_core.specs.declared.line.Dir.TheVariants.{Fore, Back}
 use Rattle.moment_core.specs.declared.line.TheConstants.{WIDTH}
-use Rattle.span_core.specs.Answers.{IsUpTo}
 use Rattle.frame_core.specs.Frames.{IsPeriod, Repeats, framed, join_of, repeats_by, repeats_from}
 use Rattle.frame_core.specs.Periods.{in_width, least_common}
 use Rattle.frame_core.specs.declared.frames.Frame.{Frame}
 use Rattle.frame_core.proofs.Multiples.{least_common-IsLeastCommon}
 use Rattle.moment_core.proofs.LineLaws.{ahead-ahead, seen-zero}
+use Rattle.moment_core.proofs.Order.{steps_in_order}
 
 -- p lies where a set with the frame repeats, in the direction
 abbrev pub IsFrom : Frame → Dir → ℤ → Type 0
@@ -112,7 +112,8 @@ Repeats-join op f g a b joined x y e r s =
     (Repeats-multiple f a joined within.0 (rw is.2 common.of_left) r)
     (Repeats-multiple g b joined within.1 (rw is.2 common.of_right) s)
 
--- what repeats from step `from` on, and keeps its value up to a period from there, keeps it for good
+-- what repeats from step `from` on, and keeps its value up to a period from there, keeps it for
+-- good
 keeps_within : (f : ℕ → Bool) (from period : ℕ) → 0 < period → ((k : ℕ) → from ≤ k → f (k + period) ≡ f k) → ((k : ℕ) → k ≤ from + period → f k ≡ f 0) → (n k : ℕ) → k ≤ n → f k ≡ f 0
 keeps_within f from period positive again near zero k h = near k (omega arith)
 keeps_within f from period positive again near (suc n) k h = elim (cases_lt (from + period) k) [
@@ -126,10 +127,6 @@ keeps_within f from period positive again near (suc n) k h = elim (cases_lt (fro
 to_repeats : (frame : Frame) (dir : Dir) (p : ℤ) → (n : ℕ) × (repeats_from frame dir p ≡ ahead dir p n) × IsFrom frame dir (ahead dir p n)
 to_repeats frame Fore p = (unsigned_abs (int_max p frame.hi.0 -ℤ p), omega (arith, ints, clamps), omega (arith, ints, clamps))
 to_repeats frame Back p = (unsigned_abs (p -ℤ int_min p frame.lo.0), omega (arith, ints, clamps), omega (arith, ints, clamps))
-
-up_to-ahead : (dir : Dir) (p : ℤ) (k n : ℕ) → k ≤ n → IsUpTo dir (ahead dir p n) (ahead dir p k)
-up_to-ahead Fore p k n h = omega (arith, ints)
-up_to-ahead Back p k n h = omega (arith, ints)
 
 IsFrom-later : (frame : Frame) (dir : Dir) (p : ℤ) (m k : ℕ) → m ≤ k → IsFrom frame dir (ahead dir p m) → IsFrom frame dir (ahead dir p k)
 IsFrom-later frame Fore p m k h x = omega (arith, ints)
@@ -147,7 +144,7 @@ keeps set frame dir p positive r near k =
     let again = λ (j : ℕ) (h : from ≤ j).
     let past : IsFrom frame dir (ahead dir p j) = IsFrom-later frame dir p from j h there in
     ap set (sym (ahead-ahead dir p j n)) ∙ Repeats-again set frame r dir (ahead dir p j) past in
-    let same = λ (j : ℕ) (h : j ≤ from + n). near j (rw begins (up_to-ahead dir p j (from + n) h)) ∙ sym start in
+    let same = λ (j : ℕ) (h : j ≤ from + n). near j (rw begins (steps_in_order dir p j (from + n) h)) ∙ sym start in
     keeps_within (seen set dir p) from n (omega arith) again same k k (omega arith) ∙ start
 
 -- the joined frame, part by part, where the period is no longer than the calendar range

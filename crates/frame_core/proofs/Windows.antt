@@ -3,12 +3,12 @@ use Rattle.std.proofs.Common.{◌≡◌, ap, refl, subst, arith, ℕ, ℤ, ◌�
 use Rattle.std.proofs.lemmas.Bool.{and_parts}
 use Rattle.std.proofs.lemmas.Int.{clamps, ints}
 use Rattle.moment_core.specs.Line.{IsCalendarPosition, position_of}
-use Rattle.moment_core.specs.Sets.{ahead, seen}
+use Rattle.moment_core.specs.Sets.{ahead, seen, IsUpTo}
 use Rattle.moment_core.specs.declared.line.Dir.{Dir}
 use Rattle.moment_core.specs.declared.line.Dir.TheVariants.{Fore, Back}
 use Rattle.moment_core.specs.declared.line.TheConstants.{LOW, HIGH}
 use Rattle.moment_core.specs.declared.line.Window.{Window}
-use Rattle.span_core.specs.Answers.{IsFound, IsUpTo, end_of}
+use Rattle.span_core.specs.Answers.{IsFound, end_of}
 use Rattle.span_core.specs.declared.answers.Answer.TheVariants.{None as Never}
 use Rattle.moment_core.proofs.Comparing.{int_le-true}
 use Rattle.frame_core.specs.Frames.{HasPeriod, RepeatsIfFramed, in_calendar, repeats_by, repeats_from, window_after, window_if_framed}

@@ -1,6 +1,7 @@
 -- Sets that repeat from somewhere on, both ways.
 use Rattle.std.specs.Prelude.{◌≡◌, ◌*◌, ◌≤◌, ℕ, ℤ, pos, ◌+ℤ◌, ◌-ℤ◌, ◌≤ℤ◌, Bool, ◌&&◌, int_le, nat_le, Option, Some, None, IfSome, if◌then◌else◌}
 use Rattle.std.specs.Int.{int_max, int_min}
+use Rattle.std.proofs.Props.{props}
 use Rattle.moment_core.specs.Line.{position_of}
 use Rattle.moment_core.specs.Sets.{ahead}
 use Rattle.moment_core.specs.declared.line.Dir.{Dir}
@@ -26,6 +27,23 @@ pub record Repeats (set : ℤ → Bool) (frame : Frame) : Type 0 where
 abbrev pub RepeatsIfFramed : (ℤ → Bool) → Option Frame → Type 0
 RepeatsIfFramed set None = Unit {0}
 RepeatsIfFramed set (Some frame) = Repeats set frame
+
+-- in one way at most
+pub HasPeriod-prop : (o : Option Frame) → IsProp (HasPeriod o)
+HasPeriod-prop None = hlevel props
+HasPeriod-prop (Some frame) = hlevel props
+
+Repeats-prop : (set : ℤ → Bool) (frame : Frame) → IsProp (Repeats set frame)
+Repeats-prop set frame x y =
+    let up : IsProp ((p : ℤ) → frame.hi.0 ≤ℤ p → set (p +ℤ pos (2 * frame.period)) ≡ set p) =
+    hlevel props in
+    let down : IsProp ((p : ℤ) → p ≤ℤ frame.lo.0 → set (p -ℤ pos (2 * frame.period)) ≡ set p) =
+    hlevel props in
+    λ i. record { upwards = up x.upwards y.upwards i; downwards = down x.downwards y.downwards i }
+
+pub RepeatsIfFramed-prop : (set : ℤ → Bool) (o : Option Frame) → IsProp (RepeatsIfFramed set o)
+RepeatsIfFramed-prop set None = hlevel props
+RepeatsIfFramed-prop set (Some frame) = Repeats-prop set frame
 
 -- the frame with these ends and this period, where the period is no longer than the calendar range
 abbrev pub framed : ℤ → ℤ → ℕ → Option Frame

@@ -2,11 +2,11 @@
 use Rattle.std.specs.Prelude.{◌≡◌, ◌*◌, ◌<◌, ◌≤◌, ℕ, ℤ, ◌≤ℤ◌, Bool, Option, Some}
 use Rattle.std.specs.Int.{IsGcd}
 use Rattle.moment_core.specs.Line.{IsCalendarPosition}
-use Rattle.moment_core.specs.Sets.{ahead, seen}
+use Rattle.moment_core.specs.Sets.{ahead, seen, IsUpTo}
 use Rattle.moment_core.specs.declared.line.Dir.{Dir}
 use Rattle.moment_core.specs.declared.line.TheConstants.{G}
 use Rattle.moment_core.specs.declared.line.Window.{Window}
-use Rattle.span_core.specs.Answers.{IsFound, IsUpTo, end_of}
+use Rattle.span_core.specs.Answers.{IsFound, end_of}
 use Rattle.span_core.specs.declared.answers.Answer.TheVariants.{None as Never}
 use Rattle.frame_core.specs.Frames.{HasPeriod, IsPeriod, Repeats, RepeatsIfFramed, join_of, repeats_by, window_if_framed}
 use Rattle.frame_core.specs.Periods.{IsLeastCommon, greatest_common, least_common, period_of_rule}

@@ -1,15 +1,16 @@
 -- What an accepted rule's values are.
-use Rattle.std.proofs.Common.{◌≡◌, ℕ, ◌<◌, ◌≤◌, Bool, true, false, not, ◌&&◌, ◌||◌, List, [], ◌∷◌, Option, Some, None, ℤ, pos, ◌≤ℤ◌, unsigned_abs, refl, sym, ap, ◌∙◌, subst, arith, to_z, w64}
-use Rattle.std.specs.Prelude.{All, Ok, neg_ℤ, ◌<ℤ◌, if◌then◌else◌}
+use Rattle.std.proofs.Common.{◌≡◌, ℕ, ◌<◌, Bool, true, false, not, ◌&&◌, ◌||◌, List, [], ◌∷◌, Some, ℤ, pos, ◌≤ℤ◌, refl, ap, ◌∙◌, arith, to_z, w64}
+use Rattle.std.specs.Prelude.{All, Ok, ◌<ℤ◌, if◌then◌else◌}
 use Rattle.std.specs.List.{list_any}
 use Rattle.std.proofs.lemmas.Bool.{or_parts}
 use Rattle.std.proofs.lemmas.Bool.Decides.{nat_tests}
 use Rattle.std.proofs.lemmas.Int.{ints}
 use Rattle.std.proofs.lemmas.List.Elements.{All-cons}
 use Rattle.moment_core.specs.declared.line.Moment.{Moment}
+use Rattle.moment_core.proofs.Truths.{or_assoc}
 use Rattle.rule_core.specs.FieldChecks.{is_interval}
 use Rattle.rule_core.specs.IcalChecks.{check_ical, is_bad_item, is_bad_part, is_until}
-use Rattle.rule_core.specs.Laws.{IcalIntervalFits, IcalValuesFit, UntilsAreOfYears}
+use Rattle.rule_core.specs.Laws.{IcalValuesFit, UntilsAreOfYears}
 use Rattle.rule_core.specs.Values.{is_given, is_signed, is_within}
 use Rattle.rule_core.specs.declared.ical.IcalRule.{IcalRule}
 use Rattle.rule_core.specs.declared.lists.DayItem.{DayItem}
@@ -123,10 +124,6 @@ given_taken true own [] = refl
 given_taken true own (v ∷ values) = refl
 given_taken false own [] = refl
 given_taken false own (v ∷ values) = refl
-
-or_assoc : (a b c : Bool) → ((a || b) || c) ≡ (a || (b || c))
-or_assoc true b c = refl
-or_assoc false b c = refl
 
 pub given_also : {X : Type 0} (a a' b t t' : Bool) (own : X) (values : List X) → a ≡ a' → b ≡ is_given values → t ≡ t' → ((a || b) || t) ≡ (a' || is_given (if t' && not (is_given values) then own ∷ [] else values))
 given_also a a' b t t' own values e f g =

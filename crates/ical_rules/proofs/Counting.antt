@@ -1,12 +1,13 @@
 -- Counting from a start on.
-use Rattle.std.proofs.Common.{inl, inr, ◌≡◌, ◌≢◌, ℕ, zero, suc, ◌+◌, ◌-◌, ◌<◌, ◌≤◌, ℤ, pos, ◌+ℤ◌, ◌-ℤ◌, ◌≤ℤ◌, ◌<ℤ◌, Bool, true, false, if◌then◌else◌, refl, sym, ap, ◌∙◌, arith, add-zero, add-suc}
+use Rattle.std.proofs.Common.{◌≡◌, ℕ, zero, suc, ◌+◌, ◌-◌, ◌<◌, ◌≤◌, ℤ, pos, ◌+ℤ◌, ◌-ℤ◌, ◌≤ℤ◌, ◌<ℤ◌, Bool, true, false, if◌then◌else◌, refl, sym, ap, ◌∙◌, arith, add-zero, add-suc}
 use Rattle.std.specs.Prelude.{int_le, unsigned_abs}
 use Rattle.std.proofs.lemmas.Int.{by_lt_z, ints}
 use Rattle.moment_core.specs.Line.{IsWorkingMoment}
 use Rattle.moment_core.specs.Ranks.{count_below, count_to}
-use Rattle.moment_core.specs.Sets.{ahead, seen}
+use Rattle.moment_core.specs.Sets.{seen}
 use Rattle.moment_core.specs.declared.line.Dir.TheVariants.{Fore}
 use Rattle.moment_core.proofs.FloorLemmas.{floor_arith}
+use Rattle.moment_core.proofs.Counting.{count-same}
 
 -- nothing counts in a gap
 count-gap : (f : ℕ → Bool) (k n : ℕ) → ((j : ℕ) → k ≤ j → j < k + n → f j ≡ false) → count_below f (k + n) ≡ count_below f k
@@ -87,10 +88,6 @@ within-count has start t u count later number from member =
     let upto : int_le u t ≡ true = grind (arith, ints) in yes ∙ sym upto))
 
 -- sets that agree in the working range count alike there
-count-same : (f g : ℕ → Bool) (n : ℕ) → ((k : ℕ) → k < n → f k ≡ g k) → count_below f n ≡ count_below g n
-unfolding count_below
-count-same f g zero same = refl
-count-same f g (suc n) same = rw (count-same f g n (λ k below. same k (omega arith)), same n (omega arith)) refl
 
 pub count_to-same : (f g : ℤ → Bool) (start t : ℤ) → IsWorkingMoment start → IsWorkingMoment t → start ≤ℤ t → ((u : ℤ) → IsWorkingMoment u → f u ≡ g u) → count_to f start t ≡ count_to g start t
 unfolding count_to

@@ -2,9 +2,9 @@
 use Rattle.std.proofs.Common.{inl, inr, ◌≡◌, ◌⊎◌, ℕ, zero, suc, ◌+◌, ◌<◌, ◌≤◌, ℤ, pos, ◌+ℤ◌, ◌-ℤ◌, ◌≤ℤ◌, ◌<ℤ◌, Bool, true, false, ◌&&◌, Option, Some, None, refl, sym, ap, subst, ◌∙◌, arith}
 use Rattle.std.specs.Prelude.{int_le, unsigned_abs, if◌then◌else◌}
 use Rattle.std.specs.Ordering.{int_eq}
-use Rattle.std.proofs.lemmas.Bool.{and_left, and_parts, cases_lt}
+use Rattle.std.proofs.lemmas.Bool.{and_parts, cases_lt}
 use Rattle.std.proofs.lemmas.Int.{ints}
-use Rattle.moment_core.specs.Line.{IsCalendarMoment, IsWorkingMoment}
+use Rattle.moment_core.specs.Line.{IsCalendarMoment}
 use Rattle.moment_core.specs.Ranks.{count_below, count_to}
 use Rattle.moment_core.specs.Sets.{seen}
 use Rattle.moment_core.specs.declared.line.Dir.TheVariants.{Fore}
@@ -16,6 +16,7 @@ use Rattle.ical_rules.specs.Starts.{IsLastMoment}
 use Rattle.ical_rules.specs.declared.outcome.Settled.{Settled}
 use Rattle.ical_rules.specs.declared.outcome.Settled.TheVariants.{Last}
 use Rattle.moment_core.specs.declared.line.Moment.{Moment}
+use Rattle.moment_core.proofs.Comparing.{int_eq-is}
 use Rattle.ical_rules.specs.Rules.{IsSettled, first_of, is_member_number, is_up_to, last_by, last_counted, start_of}
 use Rattle.ical_rules.proofs.Counting.{within-count}
 
@@ -53,9 +54,6 @@ pub record IsLastCounted (r : IcalRule) (count t : ℤ) : Type 0 where
   pub member : has_uncounted r t ≡ true
   pub number : pos (count_to (has_uncounted r) (start_of r) t) ≡ count
 
-number_is : (n : ℕ) (count : ℤ) → int_eq (pos n) count ≡ true → pos n ≡ count
-number_is n count e = grind (arith, ints)
-
 pub last_counted_is : (r : IcalRule) (count t : ℤ) → IsCalendarMoment (start_of r) → last_by r (Some count) ≡ Some t → IsLastCounted r count t
 last_counted_is r count t here e =
     let n = unsigned_abs (HIGH +ℤ REACH +ℤ pos 1 -ℤ start_of r) in
@@ -65,7 +63,7 @@ last_counted_is r count t here e =
       later = omega (arith, ints, place);
       working = omega (arith, floor_arith, below, place, here.1);
       member = both.0;
-      number = number_is _ count both.1;
+      number = int_eq-is _ count both.1;
     }
 
 -- a count that is reached was reached at a member

@@ -1,10 +1,10 @@
 -- The outcomes of a search for the last member that a count lets in: each search has just one.
-use Rattle.std.proofs.Common.{inl, inr, ◌⊎◌, ◌≡◌, ℕ, zero, suc, ◌+◌, ◌<◌, ◌≤◌, ℤ, pos, ◌+ℤ◌, ◌-ℤ◌, ◌≤ℤ◌, ◌<ℤ◌, unsigned_abs, Bool, true, false, Result, Ok, Err, refl, sym, ap, ◌∙◌, arith}
+use Rattle.std.proofs.Common.{inl, inr, ◌⊎◌, ◌≡◌, ℕ, zero, suc, ◌+◌, ◌<◌, ◌≤◌, ℤ, pos, ◌+ℤ◌, ◌-ℤ◌, ◌≤ℤ◌, ◌<ℤ◌, unsigned_abs, Bool, false, Result, Ok, Err, refl, sym, ap, ◌∙◌, arith}
 use Rattle.std.proofs.lemmas.Bool.{cases_Bool, cases_eq, cases_lt}
 use Rattle.std.proofs.lemmas.Int.{by_lt_z, ints}
 use Rattle.moment_core.specs.Line.{IsCalendarMoment, IsWorkingMoment}
 use Rattle.moment_core.specs.Ranks.{count_to}
-use Rattle.moment_core.specs.Sets.{ahead, seen}
+use Rattle.moment_core.specs.Sets.{seen}
 use Rattle.moment_core.specs.Steps.{IsNextCandidate, MeetsFirst, NoCandidateLeft}
 use Rattle.moment_core.specs.declared.line.Dir.TheVariants.{Fore}
 use Rattle.moment_core.specs.declared.line.Moment.{Moment}

@@ -1,20 +1,19 @@
 -- A rule of RFC 5545 without a fault repeats by its frame.
-use Rattle.std.proofs.Common.{inl, inr, ◌≡◌, ℕ, ◌*◌, ◌<◌, ◌≤◌, ℤ, pos, ◌+ℤ◌, ◌-ℤ◌, ◌≤ℤ◌, ◌<ℤ◌, Bool, true, false, ◌&&◌, Option, Some, None, nat_le, refl, sym, ap, subst, ◌∙◌, arith, unsigned_abs}
-use Rattle.std.specs.Prelude.{int_le, Ok, IfSome}
-use Rattle.std.specs.Ordering.{int_eq}
-use Rattle.std.proofs.lemmas.Bool.{and_left, and_right, cases_Bool, leb-true}
+use Rattle.std.proofs.Common.{◌≡◌, ℕ, ◌*◌, ◌≤◌, ℤ, pos, ◌+ℤ◌, ◌-ℤ◌, ◌≤ℤ◌, ◌<ℤ◌, Bool, true, false, ◌&&◌, Option, Some, None, nat_le, refl, sym, ap, subst, ◌∙◌, arith, unsigned_abs}
+use Rattle.std.specs.Prelude.{int_le, IfSome}
+use Rattle.std.proofs.lemmas.Bool.{and_left, and_right, leb-true}
 use Rattle.std.proofs.lemmas.Int.{ints}
-use Rattle.frame_core.specs.Frames.{Repeats, framed}
+use Rattle.frame_core.specs.Frames.{Repeats}
 use Rattle.frame_core.specs.Laws.{RulesComeRound}
 use Rattle.frame_core.specs.Periods.{period_of_rule}
 use Rattle.frame_core.specs.declared.frames.Frame.{Frame}
-use Rattle.moment_core.proofs.FloorLemmas.{floor_arith}
-use Rattle.moment_core.specs.Line.{IsCalendarMoment, moment_of, position_of}
+use Rattle.moment_core.specs.Line.{IsCalendarMoment, position_of}
 use Rattle.moment_core.specs.Ranks.{count_to}
 use Rattle.moment_core.specs.Sets.{moments_in}
 use Rattle.moment_core.specs.Units.{units_of}
 use Rattle.moment_core.specs.declared.line.Moment.{Moment}
 use Rattle.moment_core.specs.declared.line.TheConstants.{WIDTH}
+use Rattle.moment_core.proofs.LineLaws.{earlier-back, moments_in-later}
 use Rattle.rule_core.specs.IcalMembers.{has_ical, has_uncounted, ical_unit, is_by, is_within_count}
 use Rattle.rule_core.specs.Laws.{IcalIntervalFits, IcalRulesRepeat, IcalValuesFit, UntilsAreOfYears}
 use Rattle.rule_core.specs.declared.ical.IcalRule.{IcalRule}
@@ -23,38 +22,10 @@ use Rattle.ical_rules.specs.Laws.{CheckedIcalRulesRepeat}
 use Rattle.ical_rules.specs.Leaves.{IsFramed}
 use Rattle.ical_rules.specs.Rules.{frame_of_ical, framed_as, framed_by, framed_last, framed_to, last_by, last_counted, start_of}
 use Rattle.ical_rules.specs.Starts.{IsLastMoment}
-use Rattle.ical_rules.proofs.Checks.{count_is, interval_is, until_is}
+use Rattle.ical_rules.proofs.Checks.{interval_is, until_is}
 use Rattle.ical_rules.proofs.LastCounted.{last_counted_is, none_past}
 
--- a position with no moment of a set
-odd : (has : ℤ → Bool) (p : ℤ) → int_eq (position_of (moment_of p)) p ≡ false → moments_in has p ≡ false
-odd has p e = rw e refl
-
-int_eq-later : (a b c d : ℤ) (n : ℕ) → c ≡ a +ℤ pos n → d ≡ b +ℤ pos n → int_eq c d ≡ int_eq a b
-int_eq-later a b c d n x y = rw (x, y) (grind (arith, ints))
-
-equal : (a b : ℤ) → int_eq a b ≡ true → a ≡ b
-equal a b e = grind (arith, ints)
-
--- a set of moments is the same a period later, where its test is
-module _ (has : ℤ → Bool) (p : ℤ) (n : ℕ) where
-  even-later : int_eq (position_of (moment_of (p +ℤ pos (2 * n)))) (p +ℤ pos (2 * n)) ≡ int_eq (position_of (moment_of p)) p
-  even-later = int_eq-later (position_of (moment_of p)) p _ _ (2 * n) (omega (arith, floor_arith)) refl
-
-  moments_in-later : ((t : ℤ) → position_of t ≡ p → has (t +ℤ pos n) ≡ has t) → moments_in has (p +ℤ pos (2 * n)) ≡ moments_in has p
-  moments_in-later same = elim (cases_Bool (int_eq (position_of (moment_of p)) p)) [
-    | inl even ↦ (let moment : moment_of (p +ℤ pos (2 * n)) ≡ moment_of p +ℤ pos n = omega (arith, floor_arith) in
-        both even-later (ap has moment ∙ same (moment_of p) (equal (position_of (moment_of p)) p even)))
-    | inr none ↦ odd has (p +ℤ pos (2 * n)) (even-later ∙ none) ∙ sym (odd has p none)
-  ]
-    where
-      both : {a b c d : Bool} → a ≡ b → c ≡ d → (a && c) ≡ (b && d)
-      both x y = cc
-
-earlier-back : (p : ℤ) (n : ℕ) → (p -ℤ pos n) +ℤ pos n ≡ p
-earlier-back p n = omega (arith, ints)
-
--- so it repeats by a frame, where its test does from the frame's ends on
+-- a set of moments repeats by a frame, where its test does from the frame's ends on
 repeats-by : (has : ℤ → Bool) (frame : Frame) → ((t : ℤ) → frame.hi.0 ≤ℤ position_of t → has (t +ℤ pos frame.period) ≡ has t)
     → ((t : ℤ) → position_of (t +ℤ pos frame.period) ≤ℤ frame.lo.0 → has (t +ℤ pos frame.period) ≡ has t) → Repeats (moments_in has) frame
 repeats-by has frame up down = record {

@@ -1,20 +1,18 @@
 -- A rule without its COUNT, and the COUNT-th of its members.
-use Rattle.std.proofs.Common.{inl, inr, ◌≡◌, ℕ, zero, suc, ◌+◌, ◌<◌, ◌≤◌, ℤ, pos, ◌+ℤ◌, ◌-ℤ◌, ◌≤ℤ◌, ◌<ℤ◌, unsigned_abs, Bool, true, false, not, ◌&&◌, ◌||◌, List, Option, Some, None, Result, Ok, Err, if◌then◌else◌, refl, sym, ap, subst, ◌∙◌, arith}
+use Rattle.std.proofs.Common.{◌≡◌, ℕ, zero, suc, ◌<◌, ◌≤◌, ℤ, pos, ◌+ℤ◌, ◌-ℤ◌, ◌≤ℤ◌, ◌<ℤ◌, unsigned_abs, Bool, true, false, not, ◌&&◌, ◌||◌, Option, Some, None, Result, Ok, Err, refl, sym, ap, subst, ◌∙◌, arith}
 use Rattle.std.specs.Prelude.{int_le, option_map, IfOk, IfErr}
 use Rattle.std.specs.Ordering.{int_eq}
 use Rattle.std.proofs.lemmas.Bool.{and_from, and_parts, and_right, or_parts, or_right, not-false}
-use Rattle.std.proofs.lemmas.Int.{by_lt_z, ints}
+use Rattle.std.proofs.lemmas.Int.{ints}
 use Rattle.moment_core.specs.Line.{IsCalendarMoment, IsWorkingMoment}
-use Rattle.moment_core.specs.Ranks.{count_below, count_to}
-use Rattle.moment_core.specs.Sets.{seen}
-use Rattle.moment_core.specs.TimeOfDay.{second_of_day}
-use Rattle.moment_core.specs.declared.line.Dir.TheVariants.{Fore}
+use Rattle.moment_core.specs.Ranks.{count_to}
 use Rattle.moment_core.specs.declared.line.TheConstants.{HIGH, REACH}
 use Rattle.moment_core.proofs.Comparing.{int_le-true, le-int_le}
 use Rattle.moment_core.proofs.FloorLemmas.{floor_arith}
+use Rattle.ical_rules.proofs.LastCounted.{last_counted_is}
 use Rattle.rule_core.specs.FieldMembers.{is_working}
 use Rattle.rule_core.specs.IcalChecks.{check_ical, is_bad_part}
-use Rattle.rule_core.specs.IcalMembers.{filled, has_ical, has_uncounted, is_by, meets_by_date, meets_by_day, meets_by_time, meets_parts, meets_set_pos}
+use Rattle.rule_core.specs.IcalMembers.{filled, has_ical, has_uncounted, meets_by_date, meets_by_day, meets_by_time, meets_parts, meets_set_pos}
 use Rattle.rule_core.specs.Laws.{IcalValuesFit}
 use Rattle.rule_core.specs.declared.ical.IcalRule.{IcalRule}
 use Rattle.rule_core.specs.declared.part.Part.TheVariants as parts
@@ -24,12 +22,12 @@ use Rattle.stored_pair.specs.Laws.{StepsSkipNone}
 use Rattle.stored_pair.specs.Recurrences.{AreCandidates}
 use Rattle.ical_rules.specs.Leaves.{has_counted}
 use Rattle.ical_rules.specs.declared.leaf.IcalLeaf.{IcalLeaf}
-use Rattle.ical_rules.specs.Rules.{IsSettled, first_of, is_ical_candidate, is_member_number, is_up_to, last_by, last_counted, start_of, with_count, without_count}
-use Rattle.ical_rules.specs.Settling.{AreUncounted, EndsBefore, IsBeyond, IsLast, IsNth, IsOpen, IsOutcome, IsSettling, IsSettlingBy, IsUnsettled, OutcomesAreOne, OutcomesExist}
+use Rattle.ical_rules.specs.Rules.{IsSettled, first_of, is_ical_candidate, is_member_number, last_by, last_counted, start_of, without_count}
+use Rattle.ical_rules.specs.Settling.{AreUncounted, EndsBefore, IsBeyond, IsNth, IsOutcome, IsSettling, IsSettlingBy, OutcomesAreOne, OutcomesExist}
 use Rattle.ical_rules.specs.declared.outcome.Settled.{Settled}
 use Rattle.ical_rules.specs.declared.outcome.Settled.TheVariants.{Last, Open}
 use Rattle.ical_rules.specs.declared.outcome.Unsettled.{Unsettled}
-use Rattle.ical_rules.proofs.Counting.{count_to_grows, count_to_rises, count_to-same}
+use Rattle.ical_rules.proofs.Counting.{count_to_rises}
 use Rattle.ical_rules.proofs.OutcomeLemmas.{beyond, one_outcome, outcome-same, some_outcome}
 
 -- COUNT is a positive number
@@ -83,35 +81,12 @@ first_of-none test t (suc n) none =
     rw (none t (omega (arith, ints)) (omega (arith, ints)))
     (first_of-none test (t +ℤ pos 1) n (λ v low high. none v (omega (arith, ints, low)) (omega (arith, ints, high))))
 
--- it passes the test
-record Passes (test : ℤ → Bool) (t u : ℤ) (n : ℕ) : Type 0 where
-  met : test u ≡ true
-  from : t ≤ℤ u
-  below : u <ℤ (t +ℤ pos n)
-
-passes-head : (test : ℤ → Bool) (t u : ℤ) (n : ℕ) (b : Bool) → test t ≡ b → (first_of test (t +ℤ pos 1) n ≡ Some u → Passes test (t +ℤ pos 1) u n)
-    → (if b then Some t else first_of test (t +ℤ pos 1) n) ≡ Some u → Passes test t u (suc n)
-passes-head test t u n true is rest e =
-    let same : t ≡ u = cc in
-    record { met = rw (← same) is; from = omega (arith, ints, same); below = omega (arith, ints, same) }
-passes-head test t u n false is rest e =
-    let later = rest e in
-    record { met = later.met; from = omega (arith, ints, later.from); below = omega (arith, ints, later.below) }
-
-first_of-passes : (test : ℤ → Bool) (t u : ℤ) (n : ℕ) → first_of test t n ≡ Some u → Passes test t u n
-unfolding first_of
-first_of-passes test t u zero e = absurd cc
-first_of-passes test t u (suc n) e = passes-head test t u n (test t) refl (first_of-passes test (t +ℤ pos 1) u n) e
-
 -- numbers that are one or not
 same_number : (n : ℕ) (z : ℤ) → pos 1 ≤ℤ z → n ≡ unsigned_abs z → int_eq (pos n) z ≡ true
 same_number n z some e = grind (arith, floor_arith)
 
 less_number : (n : ℕ) (z : ℤ) → pos 1 ≤ℤ z → n < unsigned_abs z → int_eq (pos n) z ≡ false
 less_number n z some less = grind (arith, floor_arith)
-
-number_from : (n : ℕ) (z : ℤ) → int_eq (pos n) z ≡ true → n ≡ unsigned_abs z
-number_from n z e = grind (arith, floor_arith)
 
 -- the moment with the member's number is the rule's last one
 pub last_counted-at : (r : IcalRule) (count t : ℤ) → r.count ≡ Some count → pos 1 ≤ℤ count → IsCalendarMoment (start_of r)
@@ -146,14 +121,12 @@ last_counted-uncounted r is = ap (last_by r) is
 nth_from : (r : IcalRule) (count t : ℤ) → r.count ≡ Some count → IsCalendarMoment (start_of r) → last_counted r ≡ Some t → IsNth (has_uncounted r) (start_of r) (unsigned_abs count) t
 unfolding last_counted
 nth_from r count t is here e =
-    let start = start_of r in
-    let p = first_of-passes (is_member_number r count) start t (unsigned_abs (HIGH +ℤ REACH +ℤ pos 1 -ℤ start)) (sym (ap (last_by r) is) ∙ e) in
-    let parts = and_parts _ _ p.met in
+    let last = last_counted_is r count t here (sym (ap (last_by r) is) ∙ e) in
     record {
-      working = (omega (arith, ints, here.0, p.from), omega (arith, floor_arith, here.1, p.below));
-      later = p.from;
-      within = parts.0;
-      number = number_from _ count parts.1;
+      working = (omega (arith, ints, here.0, last.later), last.working);
+      later = last.later;
+      within = last.member;
+      number = omega (arith, floor_arith, last.number);
     }
 
 -- the outcome settles the rule

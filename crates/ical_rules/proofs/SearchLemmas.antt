@@ -1,18 +1,18 @@
 -- A search for the last member that a count lets in, from candidate to candidate.
-use Rattle.std.proofs.Common.{◌≡◌, ◌≢◌, ℕ, ◌+◌, ◌<◌, ◌≤◌, ℤ, pos, ◌+ℤ◌, ◌-ℤ◌, ◌≤ℤ◌, ◌<ℤ◌, Bool, true, false, if◌then◌else◌, refl, sym, ap, ◌∙◌, arith}
+use Rattle.std.proofs.Common.{◌≡◌, ◌≢◌, ℕ, ◌+◌, ◌<◌, ◌≤◌, ℤ, pos, ◌+ℤ◌, ◌-ℤ◌, ◌≤ℤ◌, ◌<ℤ◌, Bool, true, false, if◌then◌else◌, refl, ap, ◌∙◌, arith}
 use Rattle.std.proofs.lemmas.Int.{by_lt_z, ints}
 use Rattle.moment_core.specs.Line.{IsCalendarMoment, IsWorkingMoment}
 use Rattle.moment_core.specs.Ranks.{count_to}
-use Rattle.moment_core.specs.Sets.{ahead, seen}
 use Rattle.moment_core.specs.Steps.{IsNextCandidate, IsNextStep, NoCandidateLeft}
 use Rattle.moment_core.specs.declared.line.Dir.TheVariants.{Fore}
 use Rattle.moment_core.specs.declared.line.Step.{Step}
 use Rattle.moment_core.specs.declared.line.Step.TheVariants.{Hit, Pass, End}
 use Rattle.stored_pair.specs.Recurrences.{NoneUpTo, SkipsNone}
-use Rattle.ical_rules.specs.Settling.{EndsBefore, IsNth, IsLast, IsOpen, IsUnsettled}
+use Rattle.ical_rules.specs.Settling.{EndsBefore, IsLast, IsOpen, IsUnsettled}
 use Rattle.ical_rules.proofs.Counting.{count_to-before, count_to-next, count_to_grows, count_to_stays}
 
--- the search stands at `at`, the last of so many candidates, or before the start; so many were members, too few yet
+-- the search stands at `at`, the last of so many candidates, or before the start; so many were
+-- members, too few yet
 pub record IsOnWay (has cand : ℤ → Bool) (start at : ℤ) (passed members count : ℕ) : Type 0 where
   pub working : IsWorkingMoment at
   pub behind : start ≤ℤ (at +ℤ pos 1)

@@ -9,7 +9,8 @@ use Rattle.rule_core.specs.declared.ical.IcalRule.{IcalRule}
 use Rattle.stored_pair.specs.Recurrences.{AreModest}
 use Rattle.ical_rules.specs.Rules.{frame_of_ical, start_of}
 
--- a rule without a fault, with DTSTART in the calendar range, repeats by its frame, whose ends are from -2^40 to 2^40
+-- a rule without a fault, with DTSTART in the calendar range, repeats by its frame, whose ends are
+-- from -2^40 to 2^40
 abbrev pub CheckedIcalRulesRepeat : Type 0
 CheckedIcalRulesRepeat =
     (r : IcalRule) → check_ical r ≡ Ok tt → IsCalendarMoment (start_of r)

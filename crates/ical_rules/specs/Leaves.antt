@@ -1,7 +1,7 @@
 -- A rule made ready to be searched.
-use Rattle.std.specs.Prelude.{◌≡◌, ◌*◌, ℤ, pos, ◌+ℤ◌, ◌-ℤ◌, ◌≤ℤ◌, Bool, ◌&&◌, Option, Some, None, IfSome}
+use Rattle.std.specs.Prelude.{◌≡◌, ℤ, Bool, ◌&&◌, Option, Some, None, IfSome}
 use Rattle.std.proofs.Props.{props}
-use Rattle.frame_core.specs.Frames.{HasPeriod, Repeats, RepeatsIfFramed}
+use Rattle.frame_core.specs.Frames.{HasPeriod, RepeatsIfFramed, HasPeriod-prop, RepeatsIfFramed-prop}
 use Rattle.frame_core.specs.declared.frames.Frame.{Frame}
 use Rattle.moment_core.specs.Line.{IsWorkingMoment}
 use Rattle.moment_core.specs.Ranks.{count_to}
@@ -16,7 +16,8 @@ use Rattle.stored_pair.specs.Recurrences.{AreModest}
 
 -- the members of a sieve's rule up to UNTIL, and of these the first so many
 unfoldable pub has_counted : Sieve → Option Moment → Option ℤ → ℤ → Bool
-has_counted s until count t = has_until s until t && is_within_count count (count_to (has_until s until) s.first.0 t)
+has_counted s until count t =
+    has_until s until t && is_within_count count (count_to (has_until s until) s.first.0 t)
 
 -- in the working range the sieve has these members
 pub record HasCounted (s : Sieve) (until : Option Moment) (count : Option ℤ) : Type 0 where
@@ -30,23 +31,10 @@ pub record IsFramed (member : ℤ → Bool) (frame : Option Frame) : Type 0 wher
   pub repeats : RepeatsIfFramed (moments_in member) frame
 
 -- in one way at most, so that a rule made ready can hold that it does
-HasPeriod-prop : (o : Option Frame) → IsProp (HasPeriod o)
-HasPeriod-prop None = hlevel props
-HasPeriod-prop (Some frame) = hlevel props
 
 ends-prop : (o : Option Frame) → IsProp (IfSome o AreModest)
 ends-prop None = hlevel props
 ends-prop (Some frame) = hlevel props
-
-Repeats-prop : (set : ℤ → Bool) (frame : Frame) → IsProp (Repeats set frame)
-Repeats-prop set frame x y =
-    let up : IsProp ((p : ℤ) → frame.hi.0 ≤ℤ p → set (p +ℤ pos (2 * frame.period)) ≡ set p) = hlevel props in
-    let down : IsProp ((p : ℤ) → p ≤ℤ frame.lo.0 → set (p -ℤ pos (2 * frame.period)) ≡ set p) = hlevel props in
-    λ i. record { upwards = up x.upwards y.upwards i; downwards = down x.downwards y.downwards i }
-
-RepeatsIfFramed-prop : (set : ℤ → Bool) (o : Option Frame) → IsProp (RepeatsIfFramed set o)
-RepeatsIfFramed-prop set None = hlevel props
-RepeatsIfFramed-prop set (Some frame) = Repeats-prop set frame
 
 pub IsFramed-prop : (member : ℤ → Bool) (frame : Option Frame) → IsProp (IsFramed member frame)
 IsFramed-prop member frame x y = λ i. record {

@@ -42,7 +42,8 @@ is_member_number r number t =
 abbrev pub last_by : IcalRule → Option ℤ → Option ℤ
 last_by r None = None
 last_by r (Some count) =
-    first_of (is_member_number r count) (start_of r) (unsigned_abs (HIGH +ℤ REACH +ℤ pos 1 -ℤ start_of r))
+    first_of (is_member_number r count) (start_of r)
+    (unsigned_abs (HIGH +ℤ REACH +ℤ pos 1 -ℤ start_of r))
 
 unfoldable pub last_counted : IcalRule → Option ℤ
 last_counted r = last_by r r.count
@@ -52,8 +53,9 @@ abbrev pub is_up_to : Option ℤ → ℤ → Bool
 is_up_to None t = true
 is_up_to (Some last) t = int_le t last
 
--- A place at which a search for members stops: from DTSTART up to UNTIL, the last member that COUNT allows and the end of the
--- working range, a midnight or a moment that meets the BY parts. The interval and BYSETPOS are no part of it.
+-- A place at which a search for members stops: from DTSTART up to UNTIL, the last member that COUNT
+-- allows and the end of the working range, a midnight or a moment that meets the BY parts. The
+-- interval and BYSETPOS are no part of it.
 unfoldable pub is_ical_candidate : IcalRule → ℤ → Bool
 is_ical_candidate r t =
     is_working t && int_le (start_of r) t && is_by r.until t && is_up_to (last_counted r) t
@@ -69,10 +71,11 @@ framed_to r last = framed_by r (position_of last +ℤ pos 1) 1
 -- from DTSTART on, once both the calendar and the interval have come round
 abbrev pub framed_from_start : IcalRule → Option Frame
 framed_from_start r =
-    framed_by r (position_of (start_of r)) (period_of_rule (units_of (ical_unit r)) (unsigned_abs r.interval))
+    framed_by r (position_of (start_of r))
+    (period_of_rule (units_of (ical_unit r)) (unsigned_abs r.interval))
 
--- a rule ends with UNTIL, or with the COUNT-th member, and otherwise goes on for ever; where the working range doesn't hold
--- that member, no frame is known
+-- a rule ends with UNTIL, or with the COUNT-th member, and otherwise goes on for ever; where the
+-- working range doesn't hold that member, no frame is known
 abbrev pub framed_last : IcalRule → Option ℤ → Option Frame
 framed_last r None = None
 framed_last r (Some last) = framed_to r last
@@ -86,7 +89,8 @@ unfoldable pub frame_of_ical : IcalRule → Option Frame
 frame_of_ical r = framed_as r r.until r.count
 
 abbrev pub meaning_of_ical : IcalRule → Meaning
-meaning_of_ical r = record { member = has_ical r; candidate = is_ical_candidate r; frame = frame_of_ical r }
+meaning_of_ical r =
+    record { member = has_ical r; candidate = is_ical_candidate r; frame = frame_of_ical r }
 
 -- where the rule's COUNT ends it
 abbrev pub IsSettled : IcalRule → Settled → Type 0

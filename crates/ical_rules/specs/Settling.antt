@@ -31,9 +31,10 @@ pub record IsOpen (has cand : ℤ → Bool) (start : ℤ) (count budget : ℕ) :
   pub members : EndsBefore has start count
   pub candidates : EndsBefore cand start (budget + 1)
 
--- `budget` candidates were passed, the last of them at `at`; that member comes later, if at all, and
--- a further candidate comes
-pub record IsUnsettled (has cand : ℤ → Bool) (start : ℤ) (count budget : ℕ) (u : Unsettled) : Type 0 where
+-- `budget` candidates were passed, the last of them at `at`; that member comes later, if at all,
+-- and a further candidate comes
+pub record IsUnsettled (has cand : ℤ → Bool) (start : ℤ) (count budget : ℕ)
+    (u : Unsettled) : Type 0 where
   pub passed : u.passed ≡ budget
   pub candidate : IsNth cand start budget u.at.0
   pub fewer : count_to has start u.at.0 < count
@@ -44,8 +45,8 @@ IsOutcome has cand start count budget (Ok (Last t)) = IsLast has cand start coun
 IsOutcome has cand start count budget (Ok Open) = IsOpen has cand start count budget
 IsOutcome has cand start count budget (Err u) = IsUnsettled has cand start count budget u
 
--- the outcome for a rule, its members and candidates being those without its COUNT: open, where there
--- is none
+-- the outcome for a rule, its members and candidates being those without its COUNT: open, where
+-- there is none
 abbrev pub IsSettlingBy : IcalRule → Option ℤ → ℕ → Result Settled Unsettled → Type 0
 IsSettlingBy r None budget outcome = outcome ≡ Ok Open
 IsSettlingBy r (Some count) budget outcome =

@@ -14,15 +14,15 @@ use rule_core::{IcalRule, rule_laws};
 use sieve_tables::lowering_laws;
 use stored_pair::{Recurrence, recurrence_laws};
 
-/// Where a rule's COUNT ends it, sought among its first `budget` candidates from DTSTART on, the rule
-/// taken without its COUNT.
+/// Where a rule's COUNT ends it, sought among its first `budget` candidates from DTSTART on, the
+/// rule taken without its COUNT.
 ///
 /// `Last(t)` comes exactly where `t` is the member with COUNT's number and is one of those
 /// candidates. `Open` comes exactly where there is no COUNT, or the working range ends before that
 /// member with at most `budget` candidates. `Unsettled` comes exactly in the other cases, with
 /// `passed` equal to the budget and the moment of that candidate. The rule is one that `check`
-/// accepts, with DTSTART in the calendar range (RFC 5545, 3.3.10). It takes no memory, and no step of
-/// a guarded rule.
+/// accepts, with DTSTART in the calendar range (RFC 5545, 3.3.10). It takes no memory, and no step
+/// of a guarded rule.
 pub fn settle(rule: &IcalRule, budget: u64) -> Result<Settled, Unsettled>
     requires checked { check_ical rule.now ≡ Ok tt }
     requires start { IsCalendarMoment (start_of rule.now) }

@@ -1,4 +1,5 @@
--- Floor division for `omega`, which reads an integer z as `up z - down z`: std's `ints` with the euclidean forms.
+-- Floor division for `omega`, which reads an integer z as `up z - down z`: std's `ints` with the
+-- euclidean forms.
 use Rattle.std.proofs.Common.{◌≡◌, ℕ, ◌+◌, ◌*◌, ◌<◌, ◌≤◌, ◌⊎◌, inl, inr, refl, arith, ℤ, pos, negsuc, unsigned_abs}
 use Rattle.std.proofs.lemmas.Int.{ints}
 use Rattle.std.specs.Int.{int_div_euclid, int_rem_euclid}

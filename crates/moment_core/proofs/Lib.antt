@@ -1,11 +1,14 @@
 pub mod Comparing
+pub mod Counting
 pub mod CycleLaws
 pub mod DateLaws
 pub mod FloorLemmas
 pub mod LineLaws
 pub mod Lists
 pub mod MonthLaws
+pub mod Order
 pub mod TimeLaws
+pub mod Truths
 pub mod UnitLaws
 pub mod WeekLaws
 pub mod YearLaws

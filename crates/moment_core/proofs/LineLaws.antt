@@ -1,15 +1,19 @@
 -- Steps on the line, what is seen on the way, and the nearest places that a search finds.
-use Rattle.std.proofs.Common.{◌≡◌, inl, inr, ap, refl, sym, subst, ◌∙◌, arith, ℕ, ◌+◌, ◌≤◌, ℤ, pos, negsuc, ◌+ℤ◌, ◌≤ℤ◌, Bool, true, false, not}
-use Rattle.std.proofs.lemmas.Bool.{cases_order, true≢false}
+use Rattle.std.proofs.Common.{◌≡◌, inl, inr, ap, refl, sym, subst, ◌∙◌, arith, ℕ, ◌+◌, ◌*◌, ◌≤◌, ℤ, pos, negsuc, ◌+ℤ◌, ◌-ℤ◌, ◌≤ℤ◌, Bool, ◌&&◌}
+use Rattle.std.specs.Ordering.{int_eq}
+use Rattle.std.proofs.lemmas.Bool.{and_left, cases_Bool, cases_order, true≢false}
 use Rattle.std.proofs.lemmas.Int.{ints}
 use Rattle.moment_core.specs.Line.{IsCalendarMoment, IsCalendarPosition, IsWorkingMoment, moment_of, position_of}
-use Rattle.moment_core.specs.Sets.{DiffersFirst, IsNextChange, ahead, seen}
+use Rattle.moment_core.specs.Sets.{DiffersFirst, IsNextChange, ahead, moments_in, seen}
 use Rattle.moment_core.specs.Steps.{IsNextCandidate, IsNextStep, MeetsFirst, NoCandidateLeft}
 use Rattle.moment_core.specs.declared.line.Dir.{Dir}
 use Rattle.moment_core.specs.declared.line.Dir.TheVariants.{Fore, Back}
 use Rattle.moment_core.specs.declared.line.Moment.{Moment}
 use Rattle.moment_core.specs.declared.line.Step.{Step}
 use Rattle.moment_core.specs.declared.line.Step.TheVariants.{Hit, Pass, End}
+use Rattle.moment_core.proofs.Truths.{not_both}
+use Rattle.moment_core.proofs.Comparing.{int_eq-is, int_eq-same}
+use Rattle.moment_core.proofs.FloorLemmas.{floor_arith}
 
 -- no step, and so many steps and then so many more
 pub ahead-zero : (dir : Dir) (p : ℤ) → ahead dir p 0 ≡ p
@@ -19,6 +23,14 @@ ahead-zero Back p = omega (arith, ints)
 pub ahead-ahead : (dir : Dir) (p : ℤ) (m n : ℕ) → ahead dir (ahead dir p m) n ≡ ahead dir p (m + n)
 ahead-ahead Fore p m n = omega (arith, ints)
 ahead-ahead Back p m n = omega (arith, ints)
+
+-- steps from a later start
+pub ahead-later : (dir : Dir) (t : ℤ) (p k : ℕ) → ahead dir (t +ℤ pos p) k ≡ ahead dir t k +ℤ pos p
+ahead-later Fore t p k = omega (arith, ints)
+ahead-later Back t p k = omega (arith, ints)
+
+pub earlier-back : (p : ℤ) (n : ℕ) → (p -ℤ pos n) +ℤ pos n ≡ p
+earlier-back p n = omega (arith, ints)
 
 -- so many steps lead to a place, and no other number
 pub same-steps : (dir : Dir) (p q : ℤ) (m n : ℕ) → q ≡ ahead dir p m → q ≡ ahead dir p n → m ≡ n
@@ -47,6 +59,35 @@ moment-of-position t = let near = halves (position_of t) in omega (arith, ints, 
 pub position_in_range : (t : ℤ) → IsCalendarMoment t → IsCalendarPosition (position_of t)
 position_in_range t here = (omega (arith, ints, here.0), omega (arith, ints, here.1))
 
+-- the moment at or before a position of the range
+pub moment_in_range : (q : ℤ) → IsCalendarPosition q → IsCalendarMoment (moment_of q)
+moment_in_range q here =
+    let near = halves q in
+    let low : position_of (moment_of q) ≤ℤ q = near.0 in
+    let high : q ≤ℤ (position_of (moment_of q) +ℤ pos 1) = near.1 in
+    (omega (arith, ints), omega (arith, ints))
+
+-- a moment of the calendar range is one of the working range
+pub calendar_works : (t : ℤ) → IsCalendarMoment t → IsWorkingMoment t
+calendar_works t here = (omega (arith, ints, here.0), omega (arith, ints, here.1))
+
+-- a set of moments is the same n seconds later, where its test is
+even-later : (p : ℤ) (n : ℕ) → int_eq (position_of (moment_of (p +ℤ pos (2 * n)))) (p +ℤ pos (2 * n)) ≡ int_eq (position_of (moment_of p)) p
+even-later p n =
+    let place : position_of (moment_of (p +ℤ pos (2 * n))) ≡ position_of (moment_of p) +ℤ pos (2 * n) = omega (arith, floor_arith) in
+    ap (λ z. int_eq z (p +ℤ pos (2 * n))) place ∙ int_eq-same (position_of (moment_of p)) p (2 * n)
+
+pub moments_in-later : (has : ℤ → Bool) (p : ℤ) (n : ℕ) → ((t : ℤ) → position_of t ≡ p → has (t +ℤ pos n) ≡ has t) → moments_in has (p +ℤ pos (2 * n)) ≡ moments_in has p
+moments_in-later has p n same = elim (cases_Bool (int_eq (position_of (moment_of p)) p)) [
+  | inl even ↦
+      let moment : moment_of (p +ℤ pos (2 * n)) ≡ moment_of p +ℤ pos n = omega (arith, floor_arith) in
+      both (even-later p n) (ap has moment ∙ same (moment_of p) (int_eq-is (position_of (moment_of p)) p even))
+  | inr odd ↦ and_left _ _ (even-later p n ∙ odd) ∙ sym (and_left _ _ odd)
+]
+  where
+    both : {a b c d : Bool} → a ≡ b → c ≡ d → (a && c) ≡ (b && d)
+    both x y = cc
+
 -- the ranges have no gaps
 pub calendar-between : (dir : Dir) (p : ℤ) (k n : ℕ) → IsCalendarPosition p → IsCalendarPosition (ahead dir p n) → k ≤ n → IsCalendarPosition (ahead dir p k)
 calendar-between Fore p k n here there le = (omega (arith, ints), omega (arith, ints))
@@ -55,11 +96,6 @@ calendar-between Back p k n here there le = (omega (arith, ints), omega (arith, 
 pub working-between : (dir : Dir) (t : ℤ) (k n : ℕ) → IsWorkingMoment t → IsWorkingMoment (ahead dir t n) → k ≤ n → IsWorkingMoment (ahead dir t k)
 working-between Fore t k n here there le = (omega (arith, ints), omega (arith, ints))
 working-between Back t k n here there le = (omega (arith, ints), omega (arith, ints))
-
--- no truth value is its own opposite
-pub not_both : (x : Bool) → x ≡ not x → ⊥
-not_both true e = cc
-not_both false e = cc
 
 -- the first step at which a test differs is one alone
 pub one_first : (f : ℕ → Bool) (m n : ℕ) → DiffersFirst f m → DiffersFirst f n → m ≡ n

@@ -56,7 +56,8 @@ pub working-days : (first_day (neg_ℤ (pos 9990)) ≡ neg_ℤ (pos 4_368_300)) 
 unfolding first_day calendar.days_of_years is_leap
 working-days = (refl, refl)
 
--- a day lies in years from one to another exactly if it lies from the first day of the one to the last of the other
+-- a day lies in years from one to another exactly if it lies from the first day of the one to the
+-- last of the other
 pub year_of-from : (day y : ℤ) → first_day y ≤ℤ day → y ≤ℤ year_of day
 year_of-from day y low =
     by_lt_z (year_of day) y

@@ -1,5 +1,5 @@
 -- How weeks and years go together.
-use Rattle.std.proofs.Common.{◌≡◌, ℕ, ◌+◌, ◌-◌, ◌*◌, ◌/◌, ◌%◌, ◌<◌, refl, ap, arith, ℤ, pos, ◌+ℤ◌, ◌-ℤ◌, ◌*ℤ◌, ◌<ℤ◌, ◌≤ℤ◌}
+use Rattle.std.proofs.Common.{◌≡◌, ℕ, ◌+◌, ◌-◌, ◌*◌, ◌/◌, ◌%◌, ◌<◌, refl, arith, ℤ, pos, ◌+ℤ◌, ◌-ℤ◌, ◌*ℤ◌, ◌<ℤ◌, ◌≤ℤ◌}
 use Rattle.std.specs.Int.{IsInRange}
 use Rattle.moment_core.proofs.FloorLemmas.{floor_arith, one_part}
 use Rattle.moment_core.specs.Calendar.{year_len, first_day, year_of, days_into_year, weekday_of, week_start, week_one, week_year_of, week_of, weeks_in_year, week_number}
@@ -34,7 +34,8 @@ weeks-hold_days first day h =
     let is = week_start-is first day h in
     (is.0, is.1, omega (arith, floor_arith))
 
--- week 1 begins within three days of 1 January: it has at least four days in the year, and the week before has not
+-- week 1 begins within three days of 1 January: it has at least four days in the year, and the week
+-- before has not
 pub week_one-is : (first : ℕ) (y : ℤ) → IsInRange 1 7 first → (weekday_of (week_one first y) ≡ first) × (week_one first y ≤ℤ (first_day y +ℤ pos 3)) × (first_day y ≤ℤ (week_one first y +ℤ pos 3))
 unfolding week_one
 week_one-is first y h =

@@ -1,14 +1,29 @@
 -- Sets of positions, each a test of all whole numbers, seen step by step in a direction.
-use Rattle.std.specs.Prelude.{◌≡◌, ◌<◌, ◌+◌, ℕ, ℤ, pos, ◌+ℤ◌, ◌-ℤ◌, Bool, true, false, not, ◌&&◌}
+use Rattle.std.specs.Prelude.{◌≡◌, ◌<◌, ◌+◌, ℕ, ℤ, pos, ◌+ℤ◌, ◌-ℤ◌, ◌≤ℤ◌, Bool, true, false, not, ◌&&◌}
 use Rattle.std.specs.Ordering.{int_eq}
 use Rattle.moment_core.specs.Line.{IsCalendarPosition, moment_of, position_of}
 use Rattle.moment_core.specs.declared.line.Dir.{Dir}
 use Rattle.moment_core.specs.declared.line.Dir.TheVariants.{Fore, Back}
+use Rattle.moment_core.specs.declared.line.TheConstants.{LOW, HIGH}
 
 -- the position k steps on
 abbrev pub ahead : Dir → ℤ → ℕ → ℤ
 ahead Fore p k = p +ℤ pos k
 ahead Back p k = p -ℤ pos k
+
+-- the position is not past the end, in the direction
+abbrev pub IsUpTo : Dir → ℤ → ℤ → Type 0
+IsUpTo Fore end q = q ≤ℤ end
+IsUpTo Back end q = end ≤ℤ q
+
+-- the calendar range's own first and last position in the direction
+abbrev pub range_begin : Dir → ℤ
+range_begin Fore = position_of LOW
+range_begin Back = position_of HIGH
+
+abbrev pub range_end : Dir → ℤ
+range_end Fore = position_of HIGH
+range_end Back = position_of LOW
 
 -- whether the position k steps on is a member
 abbrev pub seen : (ℤ → Bool) → Dir → ℤ → ℕ → Bool

@@ -10,8 +10,9 @@ use Rattle.moment_core.specs.declared.line.Moment.{Moment}
 use Rattle.moment_core.specs.declared.line.Stamp.{Stamp}
 use Rattle.moment_core.specs.Calendar.{is_leap, year_of, month_of, day_of_month, month_len}
 use Rattle.moment_core.specs.TimeOfDay.{day_of, hour_of, minute_of, second_of, IsCivil, seconds_of}
-use Rattle.moment_core.specs.Line.{IsCalendarMoment, IsWorkingMoment}
+use Rattle.moment_core.specs.Line.{IsWorkingMoment}
 use Rattle.moment_core.specs.CalendarLaws.{TimesNameMoments, RangesAreOfYears}
+use Rattle.moment_core.proofs.LineLaws.{calendar_works}
 use Rattle.moment_text.specs.declared.parts.Literal.{Literal}
 use Rattle.moment_text.specs.Literal.{sign_of, literal_of, Names}
 use Rattle.moment_text.specs.Parts.{text_of, FitsDigits, is_below_zero, parts_of, signed_year, literal_at}
@@ -105,10 +106,6 @@ parts_fit times ranges t absolute work =
       second = omega arith;
     }
 
--- a moment of the calendar range is one of the working range
-pub in_work : (t : ℤ) → IsCalendarMoment t → IsWorkingMoment t
-in_work t h = omega (arith, ints)
-
 -- the literal of a moment of the working range is read as its parts
 pub literal_read : TimesNameMoments → RangesAreOfYears → (t : ℤ) (absolute : Bool) → IsWorkingMoment t → literal_at (literal_of t absolute) ≡ Some (parts_of t absolute, [])
 literal_read times ranges t absolute work = rw (← text_of-parts_of t absolute) (text_read (parts_of t absolute) (parts_fit times ranges t absolute work))
@@ -118,7 +115,7 @@ pub read_is : TimesNameMoments → RangesAreOfYears → (text : List ℕ) (l : L
     → (l ≡ parts_of t l.absolute) × (l.absolute ≡ absolute) × (rest ≡ [])
 unfolding parts_of
 read_is times ranges text l rest read t absolute names =
-    let again : literal_at text ≡ Some (parts_of t absolute, []) = rw names.is_literal (literal_read times ranges t absolute (in_work t names.in_range)) in
+    let again : literal_at text ≡ Some (parts_of t absolute, []) = rw names.is_literal (literal_read times ranges t absolute (calendar_works t names.in_range)) in
     let same = some_same (literal_at text) (l, rest) (parts_of t absolute, []) read again in
     let parts : l ≡ parts_of t absolute = ap (λ x. x.0) same in
     let mark : l.absolute ≡ absolute = ap (λ (x : Literal). x.absolute) parts in
@@ -127,7 +124,7 @@ read_is times ranges text l rest read t absolute names =
 
 pub is_read : TimesNameMoments → RangesAreOfYears → (text : List ℕ) → literal_at text ≡ None → (t : ℤ) (absolute : Bool) → Names text t absolute → ⊥
 is_read times ranges text none t absolute names =
-    not_both (literal_at text) (parts_of t absolute, []) none (rw names.is_literal (literal_read times ranges t absolute (in_work t names.in_range)))
+    not_both (literal_at text) (parts_of t absolute, []) none (rw names.is_literal (literal_read times ranges t absolute (calendar_works t names.in_range)))
 
 pub something_left : (rest : List ℕ) → rest ≡ [] → false ≡ (length rest == 0) → ⊥
 something_left rest none h = false≢true (rw none at h)

@@ -1,5 +1,5 @@
 -- The literal that is read at the front of a text, and the forms by which the text begins.
-use Rattle.std.proofs.Common.{◌≡◌, ℕ, ◌≤◌, Bool, true, false, ◌⊎◌, List, [], ◌∷◌, ◌++◌, Some, None, IfSome, not, length, take, refl, sym, ap, ◌∙◌, inl, inr, arith, length-append}
+use Rattle.std.proofs.Common.{◌≡◌, ℕ, ◌≤◌, Bool, true, false, List, [], ◌∷◌, ◌++◌, Some, None, IfSome, not, length, take, refl, sym, ap, ◌∙◌, inl, inr, arith, length-append}
 use Rattle.std.specs.Prelude.{codes, ◌==◌}
 use Rattle.std.specs.Char.{is_ascii_digit}
 use Rattle.std.specs.Int.{IsInRange}
@@ -11,6 +11,7 @@ use Rattle.moment_text.specs.declared.parts.Literal.{Literal}
 use Rattle.moment_text.specs.Literal.{has_form, form_of, zone_text, is_shaped, shaped_front}
 use Rattle.moment_text.specs.Parts.{Front, text_of, two_at, behind, past, date_at, time_at, unsigned_at, literal_at}
 use Rattle.std.proofs.Math.Seq.{take-append_seam}
+use Rattle.moment_core.proofs.Truths.{same_or_not}
 use Rattle.moment_text.proofs.Digits.{digit}
 use Rattle.moment_text.proofs.Options.{passes, passes-then, IfSome-after, IfSome-at}
 use Rattle.moment_text.proofs.Fronts.{begins, begins_by, begins-append, length_of, has_front, shape_of, has_shape, last_passing-is, last_passing-within, last_passing-passes, last_passing-last}
@@ -124,12 +125,6 @@ widths_within false false = (omega arith, omega arith)
 
 pub width_of : (l : Literal) → IsInRange 19 21 (length (text_of l))
 width_of l = rw (length-text_of l) (widths_within l.minus l.absolute)
-
-same_or_not : (a b : Bool) → (a ≡ b) ⊎ (a ≡ not b)
-same_or_not true true = inl refl
-same_or_not true false = inr refl
-same_or_not false true = inr refl
-same_or_not false false = inl refl
 
 wanted_own : (absolute : Bool) → wanted absolute absolute ≡ true
 wanted_own true = refl

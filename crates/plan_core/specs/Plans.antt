@@ -14,15 +14,18 @@ use Rattle.cert_audit.specs.Lowered.{meant_of_ready}
 use Rattle.cert_audit.specs.TreeFrames.{frame_of_tree}
 use Rattle.plan_core.specs.declared.plan.Plan.{Plan}
 
--- the window after which a tree's positions repeat from a position in a direction, if there is one in the calendar range
+-- the window after which a tree's positions repeat from a position in a direction, if there is one
+-- in the calendar range
 abbrev pub window_of : Tree Meaning → Dir → ℤ → Option Window
 window_of tree = window_if_framed (frame_of_tree tree)
 
 -- the answer of a tree at p in a direction, or a stop that is due for the budget
 abbrev pub AnswersFor : Tree Meaning → ℤ → Dir → ℕ → Answer → Type 0
-AnswersFor tree p dir budget answer = IsAnswer (is_member tree) (IsDue tree) (window_of tree) dir p budget answer
+AnswersFor tree p dir budget answer =
+    IsAnswer (is_member tree) (IsDue tree) (window_of tree) dir p budget answer
 
--- what the tree of a plan means, its positions, the stops that are due in its searches, and its windows
+-- what the tree of a plan means, its positions, the stops that are due in its searches, and its
+-- windows
 abbrev pub meant_of_plan : Plan → Tree Meaning
 meant_of_plan plan = meant_of_ready plan.ready
 

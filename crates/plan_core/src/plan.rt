@@ -49,8 +49,9 @@ impl<'b> Plan<'b> {
 
     /// Looks for the nearest position past `p`, in the direction, whose membership differs.
     ///
-    /// `At`, `None` and `Edge` are the answer. `Budget` comes only where nothing differs from `p` up to the stop, which is not
-    /// past the search's end, and at least `budget` candidates lie between.
+    /// `At`, `None` and `Edge` are the answer. `Budget` comes only where nothing differs from `p`
+    /// up to the stop, which is not past the search's end, and at least `budget` candidates lie
+    /// between.
     pub fn change<L: Ledger>(
         &mut self,
         p: Pos,
@@ -67,7 +68,8 @@ impl<'b> Plan<'b> {
         sweep(&self.ready, p, dir, budget, steps)
     }
 
-    /// Tells that searches in the direction are about to begin at the position. It takes no step and changes no answer.
+    /// Tells that searches in the direction are about to begin at the position. It takes no step
+    /// and changes no answer.
     pub fn begin(&mut self, _p: Pos, _dir: Dir)
         ensures same { meant_of_plan self.new ≡ meant_of_plan self.old }
     {}

@@ -1,5 +1,5 @@
 -- What was found, told as an answer or a stop.
-use Rattle.std.proofs.Common.{◌≡◌, ◌⊎◌, inl, inr, refl, sym, subst, ℕ, ℤ, Bool, true, false, Option, Result, Ok, Err, IfOk, IfErr}
+use Rattle.std.proofs.Common.{◌≡◌, inl, inr, refl, sym, subst, ℕ, ℤ, Bool, true, false, Option, Result, Ok, Err, IfOk, IfErr}
 use Rattle.moment_core.specs.Line.{position_of}
 use Rattle.moment_core.specs.declared.line.Dir.{Dir}
 use Rattle.moment_core.specs.declared.line.Dir.TheVariants.{Fore}
@@ -67,7 +67,8 @@ never_closest set window at s (inr (gap, (before, after, a, b, is))) =
     let P : Near → Type 0 = λ n. IsNextRun set window Fore at n in
     never_closer at before after s (λ t e. subst P e b) is
 
--- what a query tells: its answer or a stop that is due, the answer where the budget is ample, and what that says
+-- what a query tells: its answer or a stop that is due, the answer where the budget is ample, and
+-- what that says
 pub record Tells (answer says : Near → Type 0) (places : Dir → ℤ → Type 0) (due : Dir → ℤ → ℕ → Stop → Type 0) (budget : ℕ) (near : Near) : Type 0 where
   pub answers : AnswersOrStops answer places due budget near
   pub complete : IsAmpleAt places due budget → IsAnswered near

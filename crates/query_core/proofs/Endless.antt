@@ -1,14 +1,18 @@
--- What the answers of queries say past the calendar range, where the set repeats, and that their moments lie in it.
-use Rattle.std.proofs.Common.{◌≡◌, ◌⊎◌, inl, inr, sym, ap, subst, ◌∙◌, arith, ℕ, ◌+◌, ◌-◌, ℤ, ◌≤ℤ◌, ◌<ℤ◌, pos, ◌+ℤ◌, ◌-ℤ◌, unsigned_abs, Bool, true, false, if◌then◌else◌}
+-- What the answers of queries say past the calendar range, where the set repeats, and that their
+-- moments lie in it.
+use Rattle.std.proofs.Common.{◌≡◌, inl, inr, sym, ap, subst, ◌∙◌, arith, ℕ, ◌+◌, ◌-◌, ℤ, ◌≤ℤ◌, Bool, true, false, if◌then◌else◌}
 use Rattle.std.proofs.lemmas.Bool.{cases_lt}
-use Rattle.std.proofs.lemmas.Int.{by_lt_z, ints}
-use Rattle.moment_core.specs.Line.{IsCalendarMoment, IsCalendarPosition, moment_of, position_of}
-use Rattle.moment_core.specs.Sets.{ahead, seen}
+use Rattle.std.proofs.lemmas.Int.{ints}
+use Rattle.moment_core.specs.Line.{IsCalendarMoment, IsCalendarPosition, position_of}
+use Rattle.moment_core.specs.Sets.{seen, IsUpTo, range_end}
 use Rattle.moment_core.specs.declared.line.Dir.{Dir}
 use Rattle.moment_core.specs.declared.line.Dir.TheVariants.{Fore, Back}
 use Rattle.moment_core.specs.declared.line.Window.{Window}
-use Rattle.moment_core.proofs.LineLaws.{halves, position_in_range, seen-on}
-use Rattle.span_core.specs.Answers.{IsCalendarNear, IsFound, IsUpTo}
+use Rattle.moment_core.proofs.LineLaws.{position_in_range, seen-on, moment_in_range}
+use Rattle.moment_core.proofs.Truths.{true-false}
+use Rattle.moment_core.proofs.Comparing.{cases_le_z}
+use Rattle.moment_core.proofs.Order.{steps_to}
+use Rattle.span_core.specs.Answers.{IsCalendarNear, IsFound}
 use Rattle.span_core.specs.Bounds.{IsCalendarRun}
 use Rattle.span_core.specs.declared.answers.Answer.TheVariants as answers
 use Rattle.span_core.specs.declared.answers.Near.{Near}
@@ -24,24 +28,16 @@ use Rattle.cert_audit.specs.TreeFrames.{frame_of_tree}
 use Rattle.plan_core.specs.Plans.{window_of}
 use Rattle.run_search.specs.Endless.{HoldsForEver, NeverEnds}
 use Rattle.run_search.specs.Laws.{ItemsAreInRange, ItemsHoldForEver, NoneIsForEver}
-use Rattle.run_search.specs.Runs.{IsFirstRun, far_of, high_end, item_from, low_end, range_end}
+use Rattle.run_search.specs.Runs.{IsFirstRun, far_of, high_end, item_from, low_end}
 use Rattle.query_core.specs.Endless.{IsForEver, IsForEverAround, IsForEverBeside, IsForEverClosest, IsForEverCurrent}
-use Rattle.query_core.specs.Neighbours.{IsClosestRun, IsCurrentRun, IsNextPast, IsPastRun, IsRunAround, IsRunBeside, IsRunFrom, closer_of, closer_run, is_later_nearer, moment_at}
-use Rattle.query_core.proofs.Nearing.{gap_at_change, members_before, true-false}
+use Rattle.query_core.specs.Neighbours.{IsClosestRun, IsCurrentRun, IsNextPast, IsPastRun, IsRunAround, IsRunFrom, closer_of, closer_run, is_later_nearer, moment_at}
+use Rattle.query_core.proofs.Nearing.{gap_at_change, members_before}
 use Rattle.query_core.proofs.Unique.{end_in_range}
 
 -- the far end of a run lies in the range
 pub far_in_range : (set : ℤ → Bool) (dir : Dir) (p end near far : ℤ) → IsCalendarPosition near → IsCalendarPosition end → IsFirstRun set dir p end near far → IsCalendarPosition far
 far_in_range set Fore p end near far here there run = (omega (arith, ints, run.some, here.0), omega (arith, ints, run.within, there.1))
 far_in_range set Back p end near far here there run = (omega (arith, ints, run.within, there.0), omega (arith, ints, run.some, here.1))
-
--- the moment at or before a position of the range
-moment_in_range : (q : ℤ) → IsCalendarPosition q → IsCalendarMoment (moment_of q)
-moment_in_range q here =
-    let near = halves q in
-    let low : position_of (moment_of q) ≤ℤ q = near.0 in
-    let high : q ≤ℤ (position_of (moment_of q) +ℤ pos 1) = near.1 in
-    (omega (arith, ints), omega (arith, ints))
 
 module _ (in_range : ItemsAreInRange) (tree : Tree Meaning) where
   item_from_in_range : (dir : Dir) (near far : ℤ) → IsCalendarPosition near → IsCalendarPosition far → IsCalendarRun (item_from (window_of tree) dir near far)
@@ -111,13 +107,6 @@ later_on : (set : ℤ → Bool) (dir : Dir) (q p : ℤ) (bound : Bound) → IsUp
 later_on set dir q p bound past never none k =
     let j = steps_to dir q p past in
     seen-on set dir q p j.0 k j.1 ∙ never none (j.0 + k)
-  where
-    steps_to : (dir : Dir) (q p : ℤ) → IsUpTo dir p q → (j : ℕ) × (p ≡ ahead dir q j)
-    steps_to Fore q p h = (unsigned_abs (p -ℤ q), omega (arith, ints))
-    steps_to Back q p h = (unsigned_abs (q -ℤ p), omega (arith, ints))
-
-cases_le_z : (a b : ℤ) → (a ≤ℤ b) ⊎ (b <ℤ a)
-cases_le_z a b = by_lt_z b a inr inl
 
 -- the closer one of two neighbours says what its own side does
 closer_for_ever : (set : ℤ → Bool) (p at : ℤ) (a b : Near) → IsForEver set Back p a → IsForEver set Fore p b → IsForEverBeside set p (closer_of at a b)

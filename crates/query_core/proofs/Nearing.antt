@@ -8,6 +8,7 @@ use Rattle.moment_core.specs.declared.line.Dir.{Dir}
 use Rattle.moment_core.specs.declared.line.Dir.TheVariants.{Fore, Back}
 use Rattle.moment_core.specs.declared.line.Window.{Window}
 use Rattle.moment_core.proofs.LineLaws.{ahead-ahead, seen-on, seen-zero}
+use Rattle.moment_core.proofs.Truths.{true-false}
 use Rattle.span_core.specs.Answers.{IsFound}
 use Rattle.span_core.specs.declared.answers.Answer.{Answer}
 use Rattle.span_core.specs.declared.answers.Answer.TheVariants as answers
@@ -23,9 +24,6 @@ in_range-on dir p x n j k e s near =
 in_range-before : (dir : Dir) (p : ℤ) (k : ℕ) → IsCalendarPosition p → IsCalendarPosition (ahead dir p (k + 1)) → IsCalendarPosition (ahead dir p k)
 in_range-before Fore p k here near = (omega (arith, ints), omega (arith, ints))
 in_range-before Back p k here near = (omega (arith, ints), omega (arith, ints))
-
-pub true-false : (b : Bool) → b ≡ true → b ≡ false → ⊥
-true-false b t f = let e : true ≡ false = sym t ∙ f in absurd cc
 
 -- where the first position is no member, a run begins at the first one that differs
 begins_first : (f : ℕ → Bool) (n : ℕ) → f 0 ≡ false → DiffersFirst f n → (m : ℕ) × (n ≡ m + 1) × BeginsFirst f m

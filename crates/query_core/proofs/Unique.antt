@@ -1,15 +1,17 @@
 -- Each query has an answer, and no second one.
-use Rattle.std.proofs.Common.{◌≡◌, ◌⊎◌, inl, inr, ap, refl, sym, subst, ◌∙◌, arith, ℕ, ◌+◌, ℤ, ◌≤ℤ◌, Bool, true, false, Option, None}
+use Rattle.std.proofs.Common.{◌≡◌, ◌⊎◌, inl, inr, ap, refl, sym, subst, ◌∙◌, arith, ℕ, ◌+◌, ℤ, Bool, true, false, Option, None}
 use Rattle.std.proofs.lemmas.Bool.{cases_order}
 use Rattle.std.proofs.lemmas.Int.{by_lt_z, ints}
 use Rattle.moment_core.specs.Line.{IsCalendarMoment, IsCalendarPosition, position_of}
-use Rattle.moment_core.specs.Sets.{ahead, seen, BeginsFirst, IsNextBeginning, IsNextChange, NoneBegins, StaysInRange}
+use Rattle.moment_core.specs.Sets.{ahead, seen, BeginsFirst, IsNextBeginning, IsNextChange, NoneBegins, StaysInRange, IsUpTo, range_end}
 use Rattle.moment_core.specs.declared.line.Dir.{Dir}
 use Rattle.moment_core.specs.declared.line.Dir.TheVariants.{Fore, Back}
 use Rattle.moment_core.specs.declared.line.Pos.{Pos}
 use Rattle.moment_core.specs.declared.line.Window.{Window}
 use Rattle.moment_core.proofs.LineLaws.{one_change, position_in_range}
-use Rattle.span_core.specs.Answers.{IsFound, IsUpTo}
+use Rattle.moment_core.proofs.Truths.{true-false}
+use Rattle.moment_core.proofs.Order.{up_to_end, self_up_to}
+use Rattle.span_core.specs.Answers.{IsFound}
 use Rattle.span_core.specs.Laws.{AnswersAreUnique, SearchesAreAnswered}
 use Rattle.span_core.specs.declared.answers.Answer.{Answer}
 use Rattle.span_core.specs.declared.answers.Answer.TheVariants as answers
@@ -17,22 +19,14 @@ use Rattle.span_core.specs.declared.answers.Near.{Near}
 use Rattle.span_core.specs.declared.answers.Near.TheVariants as nears
 use Rattle.span_core.specs.declared.bounds.Run.{Run}
 use Rattle.run_search.specs.Laws.{RunsAreUnique, RunsExist}
-use Rattle.run_search.specs.Runs.{HasNoMember, IsFirstRun, item_between, item_from, range_end}
+use Rattle.run_search.specs.Runs.{IsFirstRun, item_between, item_from}
 use Rattle.query_core.specs.Neighbours.{IsClosestRun, IsCurrentRun, IsFoundPastRun, IsNextPast, IsPastRun, IsRunAround, IsRunBeside, IsRunFrom, closer_of}
-use Rattle.query_core.proofs.Nearing.{begins_at_change, edge_past, first_past_gap, gap_at_change, never_past, next_past_run, true-false}
+use Rattle.query_core.proofs.Nearing.{begins_at_change, edge_past, first_past_gap, gap_at_change, never_past, next_past_run}
 
--- the range's end lies in it, and no position of it is past that
+-- the range's end lies in it
 pub end_in_range : (dir : Dir) → IsCalendarPosition (range_end dir)
 end_in_range Fore = (omega (arith, ints), omega (arith, ints))
 end_in_range Back = (omega (arith, ints), omega (arith, ints))
-
-up_to_end : (dir : Dir) (p : ℤ) → IsCalendarPosition p → IsUpTo dir (range_end dir) p
-up_to_end Fore p here = here.1
-up_to_end Back p here = here.0
-
-self_up_to : (dir : Dir) (p : ℤ) → IsUpTo dir p p
-self_up_to Fore p = omega (arith, ints)
-self_up_to Back p = omega (arith, ints)
 
 -- the first run from a member on begins there
 before_first : (dir : Dir) (p near : ℤ) → IsUpTo dir near p → (p ≡ near) ⊎ IsUpTo dir near (ahead dir p 1)

@@ -19,7 +19,8 @@ PlacesAround p d place = place ≡ p
 -- those of `current`: of the run that holds the moment; else those of `previous`
 abbrev pub PlacesOfCurrent : (ℤ → Bool) → ℤ → Dir → ℤ → Type 0
 PlacesOfCurrent set at d place =
-    ((set (position_of at) ≡ true) × PlacesAround (position_of at) d place) ⊎ ((set (position_of at) ≡ false) × PlacesOfNext set Back at d place)
+    ((set (position_of at) ≡ true) × PlacesAround (position_of at) d place)
+    ⊎ ((set (position_of at) ≡ false) × PlacesOfNext set Back at d place)
 
 -- those of both neighbours of a moment
 abbrev pub PlacesBeside : (ℤ → Bool) → ℤ → Dir → ℤ → Type 0
@@ -28,10 +29,12 @@ PlacesBeside set at d place = PlacesOfNext set d at d place
 -- those of `closest`: of the run that holds the moment; else those of `previous` and `next`
 abbrev pub PlacesOfClosest : (ℤ → Bool) → ℤ → Dir → ℤ → Type 0
 PlacesOfClosest set at d place =
-    ((set (position_of at) ≡ true) × PlacesAround (position_of at) d place) ⊎ ((set (position_of at) ≡ false) × PlacesBeside set at d place)
+    ((set (position_of at) ≡ true) × PlacesAround (position_of at) d place)
+    ⊎ ((set (position_of at) ≡ false) × PlacesBeside set at d place)
 
 -- the answer, or a stop that is due for the budget at one of the places
-abbrev pub AnswersOrStops : (Near → Type 0) → (Dir → ℤ → Type 0) → (Dir → ℤ → ℕ → Stop → Type 0) → ℕ → Near → Type 0
+abbrev pub AnswersOrStops : (Near → Type 0) → (Dir → ℤ → Type 0) → (Dir → ℤ → ℕ → Stop → Type 0) → ℕ
+    → Near → Type 0
 AnswersOrStops answer places due budget (nears.Found run) = answer (nears.Found run)
 AnswersOrStops answer places due budget (nears.None w) = answer (nears.None w)
 AnswersOrStops answer places due budget nears.Edge = answer nears.Edge

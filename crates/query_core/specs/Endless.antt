@@ -9,10 +9,13 @@ use Rattle.span_core.specs.declared.answers.Near.TheVariants as nears
 use Rattle.run_search.specs.Endless.{HoldsForEver, NeverEnds}
 use Rattle.run_search.specs.Runs.{far_of}
 
--- what the next run past p says: one without a bound at its far end never ends; where none begins by the set's frame, none ever begins
+-- what the next run past p says: one without a bound at its far end never ends; where none begins
+-- by the set's frame, none ever begins
 abbrev pub IsForEver : (ℤ → Bool) → Dir → ℤ → Near → Type 0
-IsForEver set dir p (nears.Found run) = (q : ℤ) × IsNextBeginning set dir p q × NeverEnds set dir q (far_of dir run)
-IsForEver set dir p (nears.None w) = (k : ℕ) → seen set dir p (k + 1) ≡ true → seen set dir p k ≡ true
+IsForEver set dir p (nears.Found run) =
+    (q : ℤ) × IsNextBeginning set dir p q × NeverEnds set dir q (far_of dir run)
+IsForEver set dir p (nears.None w) =
+    (k : ℕ) → seen set dir p (k + 1) ≡ true → seen set dir p k ≡ true
 IsForEver set dir p nears.Edge = Unit {0}
 IsForEver set dir p (nears.Budget s) = Unit {0}
 
@@ -29,10 +32,13 @@ IsForEverCurrent set at near =
     ((set (position_of at) ≡ true) × IsForEverAround set (position_of at) near)
     ⊎ ((set (position_of at) ≡ false) × IsForEver set Back (position_of at) near)
 
--- what the closer one of two neighbours says: that of its own side; and where none is found, that none ever is, on both sides
+-- what the closer one of two neighbours says: that of its own side; and where none is found, that
+-- none ever is, on both sides
 abbrev pub IsForEverBeside : (ℤ → Bool) → ℤ → Near → Type 0
-IsForEverBeside set p (nears.Found run) = IsForEver set Back p (nears.Found run) ⊎ IsForEver set Fore p (nears.Found run)
-IsForEverBeside set p (nears.None w) = IsForEver set Back p (nears.None w) × IsForEver set Fore p (nears.None w)
+IsForEverBeside set p (nears.Found run) =
+    IsForEver set Back p (nears.Found run) ⊎ IsForEver set Fore p (nears.Found run)
+IsForEverBeside set p (nears.None w) =
+    IsForEver set Back p (nears.None w) × IsForEver set Fore p (nears.None w)
 IsForEverBeside set p nears.Edge = Unit {0}
 IsForEverBeside set p (nears.Budget s) = Unit {0}
 

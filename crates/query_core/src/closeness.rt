@@ -23,7 +23,8 @@ fn away(a: Moment, b: Moment) -> u64
     a.0.abs_diff(b.0)
 }
 
-/// Of two runs before and after a moment the nearer one, by their bounds on its side; the earlier one on a tie.
+/// Of two runs before and after a moment the nearer one, by their bounds on its side; the earlier
+/// one on a tie.
 fn closer_run(at: Moment, before: Run, after: Run) -> Run
     ensures { result ≡ closer_run at.0 before after }
 {

@@ -14,8 +14,9 @@ pub fn neighbour_laws()
     run_laws();
 }
 
-/// What the answers for a tree say of all whole numbers: where none is found by the tree's frame, none ever is, and a run without
-/// a bound never ends there. The moments of the answers are of the calendar range.
+/// What the answers for a tree say of all whole numbers: where none is found by the tree's frame,
+/// none ever is, and a run without a bound never ends there. The moments of the answers are of the
+/// calendar range.
 pub fn endless_laws()
     ensures for_ever { NeighboursHoldForEver }
     ensures in_range { NeighboursAreInRange }
@@ -24,8 +25,8 @@ pub fn endless_laws()
     window_laws();
 }
 
-/// For a tree that looks no farther than `REACH`, no stop is due in a query for an ample budget; nor for a budget above the
-/// candidates of the search from each of the query's places.
+/// For a tree that looks no farther than `REACH`, no stop is due in a query for an ample budget;
+/// nor for a budget above the candidates of the search from each of the query's places.
 pub fn budget_laws()
     ensures ample { AmpleFindsNeighbours }
     ensures enough { EnoughFindsNeighbours }

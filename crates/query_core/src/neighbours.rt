@@ -19,12 +19,13 @@ use run_search::holds;
 use span_core::{Near, Stop, Test};
 use std::sync::ledger::Ledger;
 
-/// The first run that begins after the moment, by searches of the set forwards, each with the budget.
+/// The first run that begins after the moment, by searches of the set forwards, each with the
+/// budget.
 ///
-/// Where none begins up to the end of the calendar range, `None` gives the window after which the set repeats, in which nothing
-/// differs, so that none ever begins, and `Edge` says nothing of what lies past the range. A run without a last bound never
-/// ends. `Budget` comes only where one of the searches stops: from the moment, from the end of its run, or from the beginning
-/// of the next one.
+/// Where none begins up to the end of the calendar range, `None` gives the window after which the
+/// set repeats, in which nothing differs, so that none ever begins, and `Edge` says nothing of what
+/// lies past the range. A run without a last bound never ends. `Budget` comes only where one of the
+/// searches stops: from the moment, from the end of its run, or from the beginning of the next one.
 pub fn next<L: Ledger>(plan: &mut Plan, at: Moment, budget: u64, steps: &mut Steps<L>) -> Near
     requires range { IsCalendarMoment at.0 }
     requires budget { 1 ≤ budget }
@@ -41,7 +42,8 @@ pub fn next<L: Ledger>(plan: &mut Plan, at: Moment, budget: u64, steps: &mut Ste
     neighbour(plan, Dir::Fore, at, budget, steps)
 }
 
-/// The last run that ends before the moment, by searches of the set backwards: the same as `next`, the other way.
+/// The last run that ends before the moment, by searches of the set backwards: the same as `next`,
+/// the other way.
 pub fn previous<L: Ledger>(plan: &mut Plan, at: Moment, budget: u64, steps: &mut Steps<L>) -> Near
     requires range { IsCalendarMoment at.0 }
     requires budget { 1 ≤ budget }
@@ -60,7 +62,8 @@ pub fn previous<L: Ledger>(plan: &mut Plan, at: Moment, budget: u64, steps: &mut
 
 /// The run that holds the moment, else what `previous` gives.
 ///
-/// Where the moment is a member, both ends of its run are searched for from there, each with the budget.
+/// Where the moment is a member, both ends of its run are searched for from there, each with the
+/// budget.
 pub fn current<L: Ledger>(plan: &mut Plan, at: Moment, budget: u64, steps: &mut Steps<L>) -> Near
     requires range { IsCalendarMoment at.0 }
     requires budget { 1 ≤ budget }
@@ -79,10 +82,11 @@ pub fn current<L: Ledger>(plan: &mut Plan, at: Moment, budget: u64, steps: &mut 
     told(current_at(plan, at, budget, steps))
 }
 
-/// The run that holds the moment, else of what `previous` and `next` give the run that is nearer to it, by the moments of the
-/// bounds on its side; the earlier one on a tie.
+/// The run that holds the moment, else of what `previous` and `next` give the run that is nearer to
+/// it, by the moments of the bounds on its side; the earlier one on a tie.
 ///
-/// Where one of the two is found alone, it is that one. Where neither is, it is `Edge` if either is, else the `None` of `next`.
+/// Where one of the two is found alone, it is that one. Where neither is, it is `Edge` if either
+/// is, else the `None` of `next`.
 pub fn closest<L: Ledger>(plan: &mut Plan, at: Moment, budget: u64, steps: &mut Steps<L>) -> Near
     requires range { IsCalendarMoment at.0 }
     requires budget { 1 ≤ budget }

@@ -7,8 +7,8 @@ ghost use Rattle.query_core.specs.Neighbours.{IsNextPast, IsRunAround, IsRunFrom
 
 use moment_core::{Dir, Pos, Steps};
 use plan_core::Plan;
-use run_search::{holds, item_from, last_of_run, range_end};
-use span_core::{Answer, Near, Run, Stop};
+use run_search::{holds, item_from, last_of_run};
+use span_core::{Answer, Near, Run, Stop, range_end};
 use std::sync::ledger::Ledger;
 
 /// The nearest run past the position, in the direction.

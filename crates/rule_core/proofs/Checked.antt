@@ -1,9 +1,9 @@
 -- A rule without a fault meets the test of none.
-use Rattle.std.proofs.Common.{◌≡◌, ℕ, zero, suc, ◌<◌, Bool, true, false, not, ◌||◌, List, [], ◌∷◌, length, get_or, Option, Some, None, Ok, refl, arith}
+use Rattle.std.proofs.Common.{◌≡◌, ℕ, zero, suc, ◌<◌, Bool, true, false, not, List, [], ◌∷◌, length, get_or, Option, Some, None, Ok, refl, arith}
 use Rattle.std.specs.Prelude.{option_map, if◌then◌else◌}
 use Rattle.std.specs.List.{find, list_all, list_any}
 use Rattle.std.specs.Option.{option_or}
-use Rattle.std.proofs.lemmas.Bool.{and_from}
+use Rattle.std.proofs.lemmas.Bool.{and_from, or_parts}
 use Rattle.std.proofs.lemmas.List.Sums.{AllPass-from_list_all}
 use Rattle.rule_core.specs.declared.field.FieldRule.{FieldRule}
 use Rattle.rule_core.specs.declared.ical.IcalRule.{IcalRule}
@@ -37,10 +37,6 @@ not_false : (b : Bool) → not b ≡ false → b ≡ true
 not_false true e = refl
 not_false false e = absurd cc
 
-or_false : (a b : Bool) → (a || b) ≡ false → (a ≡ false) × (b ≡ false)
-or_false true b e = absurd cc
-or_false false b e = (refl, e)
-
 no_head : {X : Type 0} (b : Bool) (x : X) (rest : Option X) → (if b then Some x else rest) ≡ None → (b ≡ false) × (rest ≡ None)
 no_head true x rest e = absurd cc
 no_head false x rest e = (refl, e)
@@ -54,7 +50,7 @@ found_none p (x ∷ xs) (suc k) d none lt = found_none p xs k d (no_head (p x) x
 each_passes : {X : Type 0} (p : X → Bool) (xs : List X) → list_any (λ x. not (p x)) xs ≡ false → list_all p xs ≡ true
 each_passes p [] e = refl
 each_passes p (x ∷ xs) e =
-    let both = or_false (not (p x)) (list_any (λ y. not (p y)) xs) e in
+    let both = or_parts (not (p x)) (list_any (λ y. not (p y)) xs) e in
     and_from (p x) (list_all p xs) (not_false (p x) both.0) (each_passes p xs both.1)
 
 -- no test of a field rule's faults is met

@@ -1,15 +1,13 @@
--- A rule of RFC 5545 without UNTIL and COUNT is met again after as many times 400 years as hold a whole number of its
--- intervals.
-use Rattle.std.proofs.Common.{◌≡◌, ℕ, ◌*◌, ◌<◌, ◌≤ℤ◌, suc, zero, Bool, ◌&&◌, ◌||◌, List, [], ◌∷◌, Option, Some, None, ap, ◌∙◌, refl, arith, ℤ, pos, ◌+ℤ◌, ◌-ℤ◌, unsigned_abs, int_le}
+-- A rule of RFC 5545 without UNTIL and COUNT is met again after as many times 400 years as hold a
+-- whole number of its intervals.
+use Rattle.std.proofs.Common.{◌≡◌, ℕ, ◌*◌, ◌<◌, ◌≤ℤ◌, suc, zero, Bool, ◌&&◌, ◌||◌, Option, Some, None, ap, ◌∙◌, refl, arith, ℤ, pos, ◌+ℤ◌, ◌-ℤ◌, unsigned_abs, int_le}
 use Rattle.std.proofs.lemmas.Int.{ints}
-use Rattle.std.specs.List.{list_any}
-use Rattle.std.specs.Ordering.{int_eq}
 use Rattle.moment_core.proofs.CycleLaws.{divides-multiple, later-more, later-none, unit_of-cycles}
 use Rattle.moment_core.proofs.DateLaws.{days_into_year-cycle, month_of-cycle, day_of_month-cycle, weekday_of-cycle}
 use Rattle.moment_core.proofs.TimeLaws.{day_of-cycle}
 use Rattle.moment_core.proofs.WeekLaws.{week_of-cycle}
 use Rattle.moment_core.specs.Calendar.{divides}
-use Rattle.moment_core.specs.Ranks.{count_below, counts_with, rank_in}
+use Rattle.moment_core.specs.Ranks.{counts_with, rank_in}
 use Rattle.moment_core.specs.Sets.{ahead, seen}
 use Rattle.moment_core.specs.TimeOfDay.{day_of}
 use Rattle.moment_core.specs.Units.{unit_of, units_of}
@@ -18,6 +16,10 @@ use Rattle.moment_core.specs.declared.line.Dir.TheVariants.{Fore, Back}
 use Rattle.moment_core.specs.declared.line.Moment.{Moment}
 use Rattle.moment_core.specs.declared.line.TheConstants.{G}
 use Rattle.moment_core.specs.declared.units.Unit.{Unit as TimeUnit}
+use Rattle.moment_core.proofs.Lists.{any_same}
+use Rattle.moment_core.proofs.Comparing.{int_eq-same}
+use Rattle.moment_core.proofs.LineLaws.{ahead-later}
+use Rattle.moment_core.proofs.Counting.{count-same}
 use Rattle.rule_core.specs.IcalChecks.{is_monthly}
 use Rattle.rule_core.specs.Values.{is_given}
 use Rattle.rule_core.specs.IcalMembers.{filled, has_uncounted, ical_unit, is_by, is_day_item, meets_by_date, meets_by_day, meets_by_time, meets_parts, meets_set_pos}
@@ -30,10 +32,6 @@ day_item-cycle : (in_month : Bool) (day : ℤ) (item : DayItem) → is_day_item 
 unfolding is_day_item
 day_item-cycle in_month day item =
     rw (weekday_of-cycle day, month_of-cycle day, leap-cycle day, day_of_month-cycle day, days_into_year-cycle day) refl
-
-any_same : {X : Type 0} (p q : X → Bool) → ((x : X) → p x ≡ q x) → (xs : List X) → list_any p xs ≡ list_any q xs
-any_same p q same [] = refl
-any_same p q same (x ∷ xs) = rw (same x, any_same p q same xs) refl
 
 by_day-cycle : (r : IcalRule) (day : ℤ) → meets_by_day r (day +ℤ pos 146_097) ≡ meets_by_day r day
 unfolding meets_by_day
@@ -63,17 +61,6 @@ parts-cycles r t zero = ap (meets_parts r) (later-none t G)
 parts-cycles r t (suc m) = ap (meets_parts r) (later-more t m G) ∙ parts-cycle r (t +ℤ pos (m * G)) ∙ parts-cycles r t m
 
 -- the ranks
-int_eq-same : (a b : ℤ) (c : ℕ) → int_eq (a +ℤ pos c) (b +ℤ pos c) ≡ int_eq a b
-int_eq-same a b c = grind (arith, ints)
-
-ahead-later : (dir : Dir) (t : ℤ) (p k : ℕ) → ahead dir (t +ℤ pos p) k ≡ ahead dir t k +ℤ pos p
-ahead-later Fore t p k = omega (arith, ints)
-ahead-later Back t p k = omega (arith, ints)
-
-count_same : (f g : ℕ → Bool) → ((k : ℕ) → f k ≡ g k) → (n : ℕ) → count_below f n ≡ count_below g n
-unfolding count_below
-count_same f g same zero = refl
-count_same f g same (suc n) = rw (same n, count_same f g same n) refl
 
 module _ (unit : TimeUnit) (test : ℤ → Bool) (m : ℕ) (same : (u : ℤ) → test (u +ℤ pos (m * G)) ≡ test u) where
   counts-cycles : (t u : ℤ) → counts_with unit test (t +ℤ pos (m * G)) (u +ℤ pos (m * G)) ≡ counts_with unit test t u
@@ -83,8 +70,8 @@ module _ (unit : TimeUnit) (test : ℤ → Bool) (m : ℕ) (same : (u : ℤ) →
   rank-cycles : (dir : Dir) (t : ℤ) → rank_in unit test dir (t +ℤ pos (m * G)) ≡ rank_in unit test dir t
   unfolding rank_in
   rank-cycles dir t =
-      count_same (seen (counts_with unit test (t +ℤ pos (m * G))) dir (t +ℤ pos (m * G))) (seen (counts_with unit test t) dir t)
-      (λ k. ap (counts_with unit test (t +ℤ pos (m * G))) (ahead-later dir t (m * G) k) ∙ counts-cycles t (ahead dir t k)) _
+      count-same (seen (counts_with unit test (t +ℤ pos (m * G))) dir (t +ℤ pos (m * G))) (seen (counts_with unit test t) dir t) _
+      (λ k below. ap (counts_with unit test (t +ℤ pos (m * G))) (ahead-later dir t (m * G) k) ∙ counts-cycles t (ahead dir t k))
 
 set_pos-cycles : (r : IcalRule) (t : ℤ) (m : ℕ) → meets_set_pos r (t +ℤ pos (m * G)) ≡ meets_set_pos r t
 unfolding meets_set_pos

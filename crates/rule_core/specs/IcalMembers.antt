@@ -5,7 +5,7 @@ use Rattle.std.specs.Ordering.{int_eq}
 use Rattle.moment_core.specs.Calendar.{divides, month_of, day_of_month, weekday_of, week_year_of, week_of, weeks_in_year}
 use Rattle.moment_core.specs.Ranks.{rank_in, count_to}
 use Rattle.moment_core.specs.TimeOfDay.{day_of, hour_of, minute_of, second_of}
-use Rattle.moment_core.specs.Units.{unit_of, year_len_of, month_len_of, day_of_year, from_end, nth_of}
+use Rattle.moment_core.specs.Units.{unit_of, year_len_of, month_len_of, day_of_year, is_nth}
 use Rattle.moment_core.specs.declared.line.Dir.TheVariants.{Fore, Back}
 use Rattle.moment_core.specs.declared.line.Moment.{Moment}
 use Rattle.moment_core.specs.declared.units.Unit.{Unit as TimeUnit}
@@ -23,10 +23,6 @@ ical_unit r = unit_by r.freq r.week_start (is_given r.by_week)
 -- counts back
 unfoldable pub meets_part : List ℤ → ℕ → ℕ → Bool
 meets_part values base own = not (is_given values) || is_listed values base own
-
--- n, or -n counted from the end, is the number of v of 1 to len among those of its weekday
-abbrev pub is_nth : ℤ → ℕ → ℕ → Bool
-is_nth n len v = int_eq n (pos (nth_of v)) || int_eq n (neg_ℤ (pos (nth_of (from_end len v))))
 
 -- the weekday, by itself or as the nth one of the month or of the year
 unfoldable pub is_day_item : Bool → ℤ → DayItem → Bool

@@ -35,7 +35,8 @@ WeekStartFits = (r : FieldRule) → check_of r ≡ Ok tt → IsInRange 1 7 (firs
 abbrev pub FieldRulesRepeat : Type 0
 FieldRulesRepeat =
     (r : FieldRule) (t : ℤ) (m j : ℕ) → 0 < unsigned_abs r.interval
-    → m * units_of (field_unit r) ≡ j * unsigned_abs r.interval → has_field r (t +ℤ pos (m * G)) ≡ has_field r t
+    → m * units_of (field_unit r) ≡ j * unsigned_abs r.interval
+    → has_field r (t +ℤ pos (m * G)) ≡ has_field r t
 
 -- no part has a value out of its range
 abbrev pub IcalValuesFit : Type 0
@@ -59,5 +60,7 @@ IcalIntervalFits = (r : IcalRule) → check_ical r ≡ Ok tt → is_interval r.i
 -- without UNTIL and COUNT, the rule is met alike from DTSTART on
 abbrev pub IcalRulesRepeat : Type 0
 IcalRulesRepeat =
-    (r : IcalRule) (t : ℤ) (m j : ℕ) → r.until ≡ None → r.start.moment.0 ≤ℤ t → 0 < unsigned_abs r.interval
-    → m * units_of (ical_unit r) ≡ j * unsigned_abs r.interval → has_uncounted r (t +ℤ pos (m * G)) ≡ has_uncounted r t
+    (r : IcalRule) (t : ℤ) (m j : ℕ) → r.until ≡ None → r.start.moment.0 ≤ℤ t
+    → 0 < unsigned_abs r.interval
+    → m * units_of (ical_unit r) ≡ j * unsigned_abs r.interval
+    → has_uncounted r (t +ℤ pos (m * G)) ≡ has_uncounted r t

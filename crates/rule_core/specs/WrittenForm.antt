@@ -29,7 +29,8 @@ pub record IsOrdered (r : IcalRule) : Type 0 where
   pub by_second : is_in_order int_lt r.by_second ≡ true
   pub by_set_pos : is_in_order int_lt r.by_set_pos ≡ true
 
--- A rule that has a written form: `check` finds no fault, the lists are in order, and only an UNTIL has a Z.
+-- A rule that has a written form: `check` finds no fault, the lists are in order, and only an UNTIL
+-- has a Z.
 pub record IsWritable (r : IcalRule) : Type 0 where
   pub checked : check_ical r ≡ Ok tt
   pub ordered : IsOrdered r

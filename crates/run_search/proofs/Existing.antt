@@ -1,17 +1,19 @@
 -- Up to an end there is a first run, or no member, and no second first run.
-use Rattle.std.proofs.Common.{◌≡◌, ◌⊎◌, inl, inr, refl, sym, subst, ◌∙◌, arith, ℤ, pos, ◌+ℤ◌, ◌-ℤ◌, Bool, true, false, None}
+use Rattle.std.proofs.Common.{◌≡◌, ◌⊎◌, inl, inr, refl, sym, subst, arith, ℤ, pos, ◌+ℤ◌, ◌-ℤ◌, Bool, true, false, None}
 use Rattle.std.proofs.lemmas.Int.{ints}
 use Rattle.moment_core.specs.Line.{IsCalendarPosition}
-use Rattle.moment_core.specs.Sets.{ahead}
+use Rattle.moment_core.specs.Sets.{ahead, IsUpTo}
 use Rattle.moment_core.specs.declared.line.Dir.{Dir}
 use Rattle.moment_core.specs.declared.line.Dir.TheVariants.{Fore, Back}
-use Rattle.span_core.specs.Answers.{IsFound, IsUpTo}
+use Rattle.moment_core.proofs.Order.{self_up_to, trans_up_to, ahead_up_to, before_or_past, not_both_ways, one_place}
+use Rattle.moment_core.proofs.Truths.{true-false}
+use Rattle.span_core.specs.Answers.{IsFound}
 use Rattle.span_core.specs.Laws.{SearchesAreAnswered}
 use Rattle.span_core.specs.declared.answers.Answer.{Answer}
 use Rattle.span_core.specs.declared.answers.Answer.TheVariants as answers
 use Rattle.run_search.specs.Laws.{RunsAreUnique, RunsExist}
 use Rattle.run_search.specs.Runs.{HasNoMember, IsFirstMember, IsFirstRun}
-use Rattle.run_search.proofs.Stretching.{ahead_up_to, before_or_past, ends_at_change, ends_with_end, first_at_change, none_if_same, not_both_ways, same_if_change_past, same_if_stays, self_up_to, trans_up_to}
+use Rattle.run_search.proofs.Stretching.{ends_at_change, ends_with_end, first_at_change, none_if_same, same_if_change_past, same_if_stays}
 
 abbrev one_before : Dir → ℤ → ℤ
 one_before Fore x = x -ℤ pos 1
@@ -21,17 +23,11 @@ one_before-on : (dir : Dir) (x : ℤ) → ahead dir (one_before dir x) 1 ≡ x
 one_before-on Fore x = omega (arith, ints)
 one_before-on Back x = omega (arith, ints)
 
-not_past : (dir : Dir) (x end : ℤ) → IsUpTo dir x (ahead dir end 1) → IsUpTo dir end x → ⊥
-not_past dir x end h k = not_both_ways dir x end k h
-
-true-false : (b : Bool) → b ≡ true → b ≡ false → ⊥
-true-false b t f = let e : true ≡ false = sym t ∙ f in absurd cc
-
 -- the run of a member
 run_of_member : (set : ℤ → Bool) (dir : Dir) (p end : ℤ) (a : Answer) → IsCalendarPosition p → IsCalendarPosition end → IsUpTo dir end p → set p ≡ true → IsFound set None dir p a → (far : ℤ) × IsFirstRun set dir p end p far
 run_of_member set dir p end (answers.At x) here there within m f = elim (before_or_past dir x.0 end) [
   | inl past ↦ (one_before dir x.0, ends_at_change set dir p x.0 end (one_before dir x.0) m f.0 past (one_before-on dir x.0))
-  | inr before ↦ (end, ends_with_end set dir p end m within (same_if_change_past set dir p x.0 end f.0 (not_past dir x.0 end before)))
+  | inr before ↦ (end, ends_with_end set dir p end m within (same_if_change_past set dir p x.0 end f.0 (λ near. not_both_ways dir x.0 end near before)))
 ]
 run_of_member set dir p end (answers.None w) here there within m f = (end, ends_with_end set dir p end m within (same_if_stays set dir p end here there f.0))
 run_of_member set dir p end answers.Edge here there within m f = (end, ends_with_end set dir p end m within (same_if_stays set dir p end here there f.0))
@@ -60,7 +56,7 @@ module _ (some : SearchesAreAnswered) where
         let first = first_at_change set dir p x.0 end gap f.0 past in
         let run = of_member set dir x.0 end f.1 there past first.member in
         inl (x.0, run.0, run_of_first set dir p end x.0 run.0 first run.1)
-    | inr before ↦ inr (none_if_same set dir p end gap (same_if_change_past set dir p x.0 end f.0 (not_past dir x.0 end before)))
+    | inr before ↦ inr (none_if_same set dir p end gap (same_if_change_past set dir p x.0 end f.0 (λ near. not_both_ways dir x.0 end near before)))
   ]
   past_gap set dir p end (answers.None w) here there gap f = inr (none_if_same set dir p end gap (same_if_stays set dir p end here there f.0))
   past_gap set dir p end answers.Edge here there gap f = inr (none_if_same set dir p end gap (same_if_stays set dir p end here there f.0))
@@ -71,11 +67,6 @@ module _ (some : SearchesAreAnswered) where
     | true ↦ λ m. let run = of_member set dir p end here there within m in inl (p, run.0, run.1)
     | false ↦ λ gap. let a = some set None dir p here in past_gap set dir p end a.0 here there gap a.1
   ] refl
-
--- positions that are each not past the other are the same
-same_place : (dir : Dir) (p q : ℤ) → IsUpTo dir q p → IsUpTo dir p q → p ≡ q
-same_place Fore p q h k = omega (arith, ints)
-same_place Back p q h k = omega (arith, ints)
 
 -- the first member isn't past another member
 not_later : (set : ℤ → Bool) (dir : Dir) (p end near far q : ℤ) → IsFirstRun set dir p end near far → IsUpTo dir q p → set q ≡ true → IsUpTo dir q near
@@ -101,5 +92,5 @@ pub one_run : RunsAreUnique
 one_run set dir p end near far first last a b =
     let a_member : set near ≡ true = a.members near (self_up_to dir near) a.some in
     let b_member : set first ≡ true = b.members first (self_up_to dir first) b.some in
-    let same : near ≡ first = same_place dir near first (not_later set dir p end near far first a b.from b_member) (not_later set dir p end first last near b a.from a_member) in
-    (same, same_place dir far last (not_further set dir p end first last near far b a (sym same)) (not_further set dir p end near far first last a b same))
+    let same : near ≡ first = one_place dir near first (not_later set dir p end near far first a b.from b_member) (not_later set dir p end first last near b a.from a_member) in
+    (same, one_place dir far last (not_further set dir p end first last near far b a (sym same)) (not_further set dir p end near far first last a b same))

@@ -8,28 +8,19 @@ use Rattle.moment_core.specs.declared.line.Dir.{Dir}
 use Rattle.moment_core.specs.declared.line.Dir.TheVariants.{Fore, Back}
 use Rattle.moment_core.specs.declared.line.TheConstants.{LOW, HIGH}
 use Rattle.moment_core.specs.declared.line.Window.{Window}
-use Rattle.moment_core.proofs.LineLaws.{halves}
+use Rattle.moment_core.proofs.LineLaws.{halves, moment_in_range}
+use Rattle.moment_core.proofs.Comparing.{less_if_other}
 use Rattle.span_core.specs.Bounds.{IsCalendarBound, IsCalendarRun, high_bound, is_moment, low_bound}
 use Rattle.span_core.specs.declared.bounds.Bound.TheVariants as bounds
 use Rattle.run_search.specs.Places.{IsPlaceWithin}
 use Rattle.run_search.specs.Runs.{beyond, high_end, item_between, low_end}
 
--- the moment at or before a position of the range
-moment_in_range : (q : ℤ) → IsCalendarPosition q → IsCalendarMoment (moment_of q)
-moment_in_range q here =
-    let near = halves q in
-    let low : position_of (moment_of q) ≤ℤ q = near.0 in
-    let high : q ≤ℤ (position_of (moment_of q) +ℤ pos 1) = near.1 in
-    (omega (arith, ints), omega (arith, ints))
-
--- the one after it, where the position is an open second
-later_than : (x y : ℤ) → int_eq x y ≡ false → x ≤ℤ y → (x +ℤ pos 1) ≤ℤ y
-later_than x y e h = grind (arith, ints)
+-- the moment after an open second of the range
 
 moment_after : (q : ℤ) → IsCalendarPosition q → is_moment q ≡ false → IsCalendarMoment (moment_of q +ℤ pos 1)
 moment_after q here apart =
     let near = halves q in
-    let past : (position_of (moment_of q) +ℤ pos 1) ≤ℤ q = later_than (position_of (moment_of q)) q apart near.0 in
+    let past : (position_of (moment_of q) +ℤ pos 1) ≤ℤ q = less_if_other (position_of (moment_of q)) q apart near.0 in
     let high : q ≤ℤ (position_of (moment_of q) +ℤ pos 1) = near.1 in
     (omega (arith, ints), omega (arith, ints))
 

@@ -1,13 +1,14 @@
 -- What the answers of searches say of the positions up to an end.
-use Rattle.std.proofs.Common.{◌≡◌, ◌⊎◌, inl, inr, ap, refl, sym, subst, ◌∙◌, arith, ℕ, ◌<◌, ◌≤◌, ℤ, ◌-ℤ◌, ◌≤ℤ◌, ◌<ℤ◌, unsigned_abs, Bool, true, false, not, Option, IsTrue, ◌↔◌}
-use Rattle.std.proofs.lemmas.Int.{by_lt_z, ints}
+use Rattle.std.proofs.Common.{◌≡◌, ◌⊎◌, inl, inr, ap, refl, sym, subst, ◌∙◌, arith, ℕ, ◌<◌, ℤ, Bool, true, false, not, Option, IsTrue, ◌↔◌}
+use Rattle.std.proofs.lemmas.Int.{ints}
 use Rattle.moment_core.specs.Line.{IsCalendarPosition}
-use Rattle.moment_core.specs.Sets.{ahead, IsNextChange, StaysInRange}
+use Rattle.moment_core.specs.Sets.{ahead, IsNextChange, StaysInRange, IsUpTo, range_end}
 use Rattle.moment_core.specs.declared.line.Dir.{Dir}
 use Rattle.moment_core.specs.declared.line.Dir.TheVariants.{Fore, Back}
 use Rattle.moment_core.specs.declared.line.Window.{Window}
 use Rattle.moment_core.proofs.LineLaws.{seen-zero}
-use Rattle.span_core.specs.Answers.{IsFound, IsUpTo}
+use Rattle.moment_core.proofs.Order.{ahead_up_to, before_or_past, fewer_steps, in_range-within, no_more_steps, not_both_ways, one_on_up_to, self_up_to, steps_to, trans_up_to}
+use Rattle.span_core.specs.Answers.{IsFound}
 use Rattle.span_core.specs.declared.answers.Answer.TheVariants as answers
 use Rattle.span_core.specs.declared.answers.Why.{Why}
 use Rattle.span_core.specs.declared.answers.Why.TheVariants as whys
@@ -18,46 +19,7 @@ use Rattle.expr_tree.specs.Tree.{Tree}
 use Rattle.cert_audit.specs.Due.{IsDue}
 use Rattle.run_search.specs.Finding.{IsWhy, TellsWhy}
 use Rattle.run_search.specs.Places.{IsStopFrom}
-use Rattle.run_search.specs.Runs.{HasNoMember, IsFirstMember, IsFirstRun, IsSameUpTo, range_end}
-
--- how many steps lead there
-pub steps_to : (dir : Dir) (p q : ℤ) → IsUpTo dir q p → (k : ℕ) × (q ≡ ahead dir p k)
-steps_to Fore p q h = (unsigned_abs (q -ℤ p), omega (arith, ints))
-steps_to Back p q h = (unsigned_abs (p -ℤ q), omega (arith, ints))
-
--- order in the direction
-pub self_up_to : (dir : Dir) (p : ℤ) → IsUpTo dir p p
-self_up_to Fore p = omega (arith, ints)
-self_up_to Back p = omega (arith, ints)
-
-pub trans_up_to : (dir : Dir) (p q r : ℤ) → IsUpTo dir q p → IsUpTo dir r q → IsUpTo dir r p
-trans_up_to Fore p q r h k = omega (arith, ints)
-trans_up_to Back p q r h k = omega (arith, ints)
-
-pub one_on_up_to : (dir : Dir) (p q : ℤ) → IsUpTo dir q (ahead dir p 1) → IsUpTo dir q p
-one_on_up_to Fore p q h = omega (arith, ints)
-one_on_up_to Back p q h = omega (arith, ints)
-
-pub ahead_up_to : (dir : Dir) (p : ℤ) (n : ℕ) → IsUpTo dir (ahead dir p n) p
-ahead_up_to Fore p n = omega (arith, ints)
-ahead_up_to Back p n = omega (arith, ints)
-
-pub cases_le_z : (a b : ℤ) → (a ≤ℤ b) ⊎ (b <ℤ a)
-cases_le_z a b = by_lt_z b a inr inl
-
-pub before_or_past : (dir : Dir) (p q : ℤ) → IsUpTo dir q p ⊎ IsUpTo dir p (ahead dir q 1)
-before_or_past Fore p q = elim (cases_le_z p q) [
-  | inl h ↦ inl h
-  | inr h ↦ inr (omega (arith, ints))
-]
-before_or_past Back p q = elim (cases_le_z q p) [
-  | inl h ↦ inl h
-  | inr h ↦ inr (omega (arith, ints))
-]
-
-pub not_both_ways : (dir : Dir) (p q : ℤ) → IsUpTo dir q p → IsUpTo dir p (ahead dir q 1) → ⊥
-not_both_ways Fore p q h k = omega (arith, ints)
-not_both_ways Back p q h k = omega (arith, ints)
+use Rattle.run_search.specs.Runs.{HasNoMember, IsFirstMember, IsFirstRun, IsSameUpTo}
 
 -- where q isn't up to p, p lies before it
 pub past_if_not : (dir : Dir) (p q : ℤ) → (IsUpTo dir q p → ⊥) → IsUpTo dir p (ahead dir q 1)
@@ -82,18 +44,6 @@ back_by_one Back p q r e h = omega (arith, ints)
 pub past_then : (dir : Dir) (x end q : ℤ) → IsUpTo dir x (ahead dir end 1) → IsUpTo dir end q → IsUpTo dir x (ahead dir q 1)
 past_then Fore x end q h k = omega (arith, ints)
 past_then Back x end q h k = omega (arith, ints)
-
-fewer_steps : (dir : Dir) (p q x : ℤ) (k n : ℕ) → q ≡ ahead dir p k → x ≡ ahead dir p n → IsUpTo dir x (ahead dir q 1) → k < n
-fewer_steps Fore p q x k n e d h = omega (arith, ints)
-fewer_steps Back p q x k n e d h = omega (arith, ints)
-
-no_more_steps : (dir : Dir) (p q x : ℤ) (k n : ℕ) → q ≡ ahead dir p k → x ≡ ahead dir p n → IsUpTo dir x q → k ≤ n
-no_more_steps Fore p q x k n e d h = omega (arith, ints)
-no_more_steps Back p q x k n e d h = omega (arith, ints)
-
-in_range-within : (dir : Dir) (p q end : ℤ) → IsCalendarPosition p → IsCalendarPosition end → IsUpTo dir q p → IsUpTo dir end q → IsCalendarPosition q
-in_range-within Fore p q end here there h k = (omega (arith, ints, here.0), omega (arith, ints, there.1))
-in_range-within Back p q end here there h k = (omega (arith, ints, there.0), omega (arith, ints, here.1))
 
 -- before the nearest change nothing differs, and there it does
 same_before : (set : ℤ → Bool) (dir : Dir) (p x q : ℤ) → IsNextChange set dir p x → IsUpTo dir q p → IsUpTo dir x (ahead dir q 1) → set q ≡ set p

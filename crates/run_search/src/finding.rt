@@ -1,16 +1,14 @@
 ghost use Rattle.std.specs.Prelude.{◌≡◌, ◌≤◌, ◌⊎◌, false, true, IfErr, IfOk};
 ghost use Rattle.moment_core.specs.Line.{IsCalendarPosition};
-ghost use Rattle.moment_core.specs.Sets.{ahead};
-ghost use Rattle.span_core.specs.Answers.{IsUpTo};
+ghost use Rattle.moment_core.specs.Sets.{ahead, IsUpTo, range_end};
 ghost use Rattle.plan_core.specs.Plans.{due_of_plan, meant_of_plan, members_of_plan, window_of_plan};
 ghost use Rattle.run_search.specs.Finding.{BeginsBy, TellsWhy};
 ghost use Rattle.run_search.specs.Places.{IsStopFrom, IsTestStop};
-ghost use Rattle.run_search.specs.Runs.{IsFirstRun, range_end};
+ghost use Rattle.run_search.specs.Runs.{IsFirstRun};
 
-use crate::ends::{is_up_to, one_back, one_on, range_end};
 use moment_core::{Dir, Pos, Steps};
 use plan_core::Plan;
-use span_core::{Answer, Stop, Test, Why};
+use span_core::{Answer, Stop, Test, Why, is_up_to, one_back, one_on, range_end};
 use std::sync::ledger::Ledger;
 
 /// Where the next run begins, or why none does, or that a search stopped.

@@ -9,9 +9,10 @@ use moment_core::{Dir, HIGH, LOW, Pos};
 use plan_core::Plan;
 use span_core::{Bound, Run, run_of};
 
-/// The run of the members from a near to a far position in the direction, whichever they are. Its bounds are closed at moments and
-/// open at open seconds; at the calendar range's own end there is none, `Inf`, where nothing differs past the other position
-/// for ever, by the set's frame, and else `Edge`.
+/// The run of the members from a near to a far position in the direction, whichever they are. Its
+/// bounds are closed at moments and open at open seconds; at the calendar range's own end there is
+/// none, `Inf`, where nothing differs past the other position for ever, by the set's frame, and
+/// else `Edge`.
 pub fn item_from(plan: &Plan, dir: Dir, near: Pos, far: Pos) -> Run
     requires near { IsCalendarPosition near.0 }
     requires far { IsCalendarPosition far.0 }

@@ -4,8 +4,8 @@ use cert_audit::{ample_laws, tree_frame_laws};
 use frame_core::window_laws;
 use span_core::answer_laws;
 
-/// From each position of the calendar range up to another, either way, a set has a first run or no member, and no second first
-/// run.
+/// From each position of the calendar range up to another, either way, a set has a first run or no
+/// member, and no second first run.
 pub fn run_laws()
     ensures exist { RunsExist }
     ensures unique { RunsAreUnique }
@@ -13,8 +13,9 @@ pub fn run_laws()
     answer_laws();
 }
 
-/// What the answers of a tree of lawful rules say of all whole numbers: where a search answers none, nothing ever differs, and a
-/// run without a bound never ends there. The moments of a run's bounds are of the calendar range.
+/// What the answers of a tree of lawful rules say of all whole numbers: where a search answers
+/// none, nothing ever differs, and a run without a bound never ends there. The moments of a run's
+/// bounds are of the calendar range.
 pub fn endless_laws()
     ensures none { NoneIsForEver }
     ensures items { ItemsHoldForEver }
@@ -24,8 +25,9 @@ pub fn endless_laws()
     window_laws();
 }
 
-/// For a tree that looks no farther than `REACH`, no stop is due for an ample budget from a position, nor from the nearest
-/// changes past it; nor is one for a budget above the candidates of the search from each of them.
+/// For a tree that looks no farther than `REACH`, no stop is due for an ample budget from a
+/// position, nor from the nearest changes past it; nor is one for a budget above the candidates of
+/// the search from each of them.
 pub fn ample_place_laws()
     ensures ample { AmpleFindsAll }
     ensures enough { EnoughFindsAll }

@@ -7,13 +7,10 @@ use Rattle.moment_core.specs.declared.line.Dir.{Dir}
 use Rattle.moment_core.specs.declared.line.Dir.TheVariants.{Fore, Back}
 use Rattle.moment_core.specs.Sets.{ahead, seen}
 use Rattle.moment_core.specs.Steps.{IsNextCandidate, NoCandidateLeft}
+use Rattle.moment_core.proofs.LineLaws.{ahead-ahead}
 use Rattle.sieve_core.specs.declared.tables.Sieve.{Sieve}
 use Rattle.sieve_core.specs.Members.{is_between, is_candidate, is_mark}
 use Rattle.sieve_core.specs.Nearest.{IsNearest, IsPastNearEnd, IsStart}
-
-pub ahead-ahead : (dir : Dir) (t : ℤ) (a b : ℕ) → ahead dir (ahead dir t a) b ≡ ahead dir t (a + b)
-ahead-ahead Fore t a b = omega (arith, floor_arith)
-ahead-ahead Back t a b = omega (arith, floor_arith)
 
 -- before the nearest mark there is no candidate
 pub clear-before : (s : Sieve) (dir : Dir) (t start u : ℤ) (begins : IsStart s dir t start) (nearest : IsNearest (is_mark s) dir start u) (k : ℕ) → 0 < k → k < begins.gap + 1 + nearest.steps → seen (is_candidate s) dir t k ≡ false

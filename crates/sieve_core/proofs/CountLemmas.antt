@@ -1,6 +1,7 @@
 -- Counting the numbers below an end that pass a test.
 use Rattle.std.proofs.Common.{◌≡◌, ℕ, ◌+◌, ◌-◌, ◌*◌, ◌/◌, ◌%◌, ◌<◌, ◌≤◌, suc, zero, Bool, true, false, ◌&&◌, refl, sym, ap, ◌∙◌, arith, if◌then◌else◌, zero-mul}
 use Rattle.moment_core.specs.Ranks.{count_below}
+use Rattle.moment_core.proofs.Counting.{count-same}
 use Rattle.sieve_core.specs.Times.{both}
 
 pub count-zero : (f : ℕ → Bool) → count_below f 0 ≡ 0
@@ -10,11 +11,6 @@ count-zero f = refl
 pub count-suc : (f : ℕ → Bool) (n : ℕ) → count_below f (suc n) ≡ count_below f n + (if f n then 1 else 0)
 unfolding count_below
 count-suc f n = refl
-
-pub count-same : (f g : ℕ → Bool) (n : ℕ) → ((k : ℕ) → k < n → f k ≡ g k) → count_below f n ≡ count_below g n
-unfolding count_below
-count-same f g zero same = refl
-count-same f g (suc n) same = rw (count-same f g n (λ k below. same k (omega arith)), same n (omega arith)) refl
 
 pub count-split : (f : ℕ → Bool) (a b : ℕ) → count_below f (a + b) ≡ count_below f a + count_below (λ k. f (a + k)) b
 unfolding count_below

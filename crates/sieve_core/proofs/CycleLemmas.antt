@@ -2,7 +2,6 @@
 use Rattle.std.proofs.Common.{◌≡◌, ℕ, ◌*◌, ◌<◌, suc, zero, refl, ap, ◌∙◌, arith, ℤ, pos, ◌+ℤ◌, ◌-ℤ◌}
 use Rattle.std.proofs.lemmas.Int.{ints}
 use Rattle.std.specs.Int.{IsInRange}
-use Rattle.std.specs.Ordering.{int_eq}
 use Rattle.moment_core.proofs.CycleLaws.{divides-multiple, later-more, later-none, unit_of-cycles}
 use Rattle.moment_core.proofs.DateLaws.{days_into_year-cycle, month_of-cycle, day_of_month-cycle, weekday_of-cycle}
 use Rattle.moment_core.proofs.TimeLaws.{day_of-cycle}
@@ -16,11 +15,13 @@ use Rattle.moment_core.specs.declared.line.Dir.{Dir}
 use Rattle.moment_core.specs.declared.line.Dir.TheVariants.{Fore, Back}
 use Rattle.sieve_core.specs.declared.tables.DayTest.{DayTest}
 use Rattle.sieve_core.specs.declared.tables.Sieve.{Sieve}
-use Rattle.sieve_core.proofs.CountLemmas.{count-same}
 use Rattle.sieve_core.specs.Days.{meets_months, meets_weeks, meets_year_days, meets_month_days, meets_weekdays, is_nth_weekday, meets_days}
 use Rattle.moment_core.specs.Ranks.{rank_in}
 use Rattle.sieve_core.specs.Members.{meets_tests, meets_interval, meets_rank, meets_rule, counts_for, rank_of}
 use Rattle.moment_core.specs.Units.{unit_of, units_of}
+use Rattle.moment_core.proofs.Counting.{count-same}
+use Rattle.moment_core.proofs.Comparing.{int_eq-same}
+use Rattle.moment_core.proofs.LineLaws.{ahead-later}
 
 -- the day's tests
 meets_days-cycle : (d : DayTest) (day : ℤ) → IsInRange 1 7 d.first → meets_days d (day +ℤ pos 146_097) ≡ meets_days d day
@@ -49,12 +50,6 @@ meets_interval-cycles s t m j some e =
     ap (divides s.interval) number ∙ divides-multiple s.interval (unit_of s.unit t -ℤ s.phase) j some
 
 -- ranks too
-int_eq-same : (a b : ℤ) (c : ℕ) → int_eq (a +ℤ pos c) (b +ℤ pos c) ≡ int_eq a b
-int_eq-same a b c = grind (arith, ints)
-
-ahead-later : (dir : Dir) (t : ℤ) (p k : ℕ) → ahead dir (t +ℤ pos p) k ≡ ahead dir t k +ℤ pos p
-ahead-later Fore t p k = omega (arith, ints)
-ahead-later Back t p k = omega (arith, ints)
 
 counts_for-cycles : (s : Sieve) (t u : ℤ) (m : ℕ) → IsInRange 1 7 s.days.first → counts_for s (t +ℤ pos (m * G)) (u +ℤ pos (m * G)) ≡ counts_for s t u
 counts_for-cycles s t u m first =

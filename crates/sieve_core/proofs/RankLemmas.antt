@@ -21,15 +21,11 @@ use Rattle.sieve_core.specs.Members.{rank_of}
 use Rattle.sieve_core.specs.Ranks.{IsCapped, IsCounted, IsDeepMoment, block_end, counted, is_of_days}
 use Rattle.sieve_core.specs.Times.{meets_second, turn}
 use Rattle.moment_core.specs.Units.{HasWeekday, unit_of}
-use Rattle.sieve_core.proofs.CandidateLemmas.{ahead-ahead}
-use Rattle.sieve_core.proofs.CountLemmas.{count-zero, count-fixed, count-same, count-split, count-stays, count_le, count_mono}
+use Rattle.moment_core.proofs.LineLaws.{ahead-ahead}
+use Rattle.moment_core.proofs.Comparing.{int_eq-refl}
+use Rattle.moment_core.proofs.Counting.{count-same}
+use Rattle.sieve_core.proofs.CountLemmas.{count-zero, count-fixed, count-split, count-stays, count_le, count_mono}
 use Rattle.sieve_core.proofs.TimeLemmas.{ahead-in_day, tests-in_day}
-
-int_eq-refl : (a : ℤ) → int_eq a a ≡ true
-int_eq-refl a = grind (arith, ints)
-
-int_eq-is : (a b : ℤ) → int_eq a b ≡ true → a ≡ b
-int_eq-is a b e = grind (arith, ints)
 
 int_eq-not : (a b : ℤ) → (a ≡ b → ⊥) → int_eq a b ≡ false
 int_eq-not a b other = grind (arith, ints)

@@ -184,8 +184,8 @@ fn next_three(sieve: &Sieve, dir: Dir, from: Moment) -> [i64; 3]
     found
 }
 
-/// The next three members after the moment and before it, as they are found among all days by python3's dates, those outside the
-/// years 1 to 9999 moved by multiples of 400 years.
+/// The next three members after the moment and before it, as they are found among all days by
+/// python3's dates, those outside the years 1 to 9999 moved by multiples of 400 years.
 fn meets(rt: &impl Abort, sieve: Sieve, from: i64, after: [i64; 3], before: [i64; 3]) {
     let from = Moment(from);
     assert!(rt; is_sieve(&sieve));
@@ -558,7 +558,8 @@ fn walks_by_days_end_with_the_working_range(rt: HostRuntime) {
         -377_418_528_000,
         253_115_539_200,
     );
-    // every second week from Monday on, the last second of Thursday: -9990-01-28T23:59:59, 9990-11-29T23:59:59
+    // every second week from Monday on, the last second of Thursday: -9990-01-28T23:59:59,
+    // 9990-11-29T23:59:59
     ends(
         &rt,
         timed(
@@ -659,7 +660,8 @@ fn steps(rt: &impl Abort, sieve: Sieve, t: i64, after: Step, before: Step) {
     assert_eq!(rt; sieve.before(t), before, "before {t:?}");
 }
 
-// On the 13th of January 2024 at 09:00: midnights are passed, and so is a time that the interval leaves out.
+// On the 13th of January 2024 at 09:00: midnights are passed, and so is a time that the interval
+// leaves out.
 #[test]
 fn steps_stop_at_midnights_and_at_times_that_are_met(rt: HostRuntime) {
     // 12 January, 10:00

@@ -1,10 +1,10 @@
 -- The tests of a rule's sieve are those of the rule.
-use Rattle.std.proofs.Common.{◌≡◌, ℕ, zero, suc, ℤ, pos, Bool, true, false, ◌&&◌, refl, sym, ap, ◌∙◌, arith}
+use Rattle.std.proofs.Common.{◌≡◌, ℤ, pos, Bool, true, false, ◌&&◌, refl, sym, ap, ◌∙◌, arith}
 use Rattle.moment_core.specs.Calendar.{divides, month_of, day_of_month, week_of, week_year_of, weeks_in_year}
 use Rattle.moment_core.specs.CalendarLaws.{WeekYearsHoldDays}
 use Rattle.moment_core.specs.TimeOfDay.{day_of, hour_of, minute_of, second_of}
 use Rattle.moment_core.specs.Units.{unit_of, year_len_of, month_len_of, day_of_year}
-use Rattle.moment_core.specs.Ranks.{count_below, rank_in, counts_with}
+use Rattle.moment_core.specs.Ranks.{rank_in, counts_with}
 use Rattle.moment_core.specs.Sets.{seen}
 use Rattle.moment_core.specs.declared.line.Dir.{Dir}
 use Rattle.moment_core.specs.declared.line.Dir.TheVariants.{Fore, Back}
@@ -12,6 +12,7 @@ use Rattle.std.specs.Prelude.{int_le, neg_ℤ, unsigned_abs, ◌-ℤ◌}
 use Rattle.moment_core.specs.declared.units.Unit.{Unit as TimeUnit}
 use Rattle.moment_core.proofs.DateLaws.{days_into_year-is, month_of-is}
 use Rattle.moment_core.proofs.FloorLemmas.{floor_arith}
+use Rattle.moment_core.proofs.Counting.{count-same}
 use Rattle.rule_core.specs.declared.ical.IcalRule.{IcalRule}
 use Rattle.rule_core.specs.IcalMembers.{filled, has_uncounted, ical_unit, is_by, meets_set_pos, meets_by_date, meets_by_time, meets_by_day, meets_parts}
 use Rattle.sieve_core.specs.declared.tables.Sieve.{Sieve}
@@ -22,14 +23,10 @@ use Rattle.sieve_tables.proofs.WeekdayLemmas.{by_day_same}
 use Rattle.sieve_tables.proofs.TableLemmas.{table_has, table_same, plain_part, either_listed}
 
 -- tests that agree everywhere give the same ranks
-count_same : (f g : ℕ → Bool) → ((n : ℕ) → f n ≡ g n) → (n : ℕ) → count_below f n ≡ count_below g n
-unfolding count_below
-count_same f g same zero = refl
-count_same f g same (suc n) = rw (same n, count_same f g same n) refl
 
 pub rank_same : (unit : TimeUnit) (f g : ℤ → Bool) → ((t : ℤ) → f t ≡ g t) → (dir : Dir) (t : ℤ) → rank_in unit f dir t ≡ rank_in unit g dir t
 unfolding rank_in
-rank_same unit f g same dir t = count_same (seen (counts_with unit f t) dir t) (seen (counts_with unit g t) dir t) (λ n. rw (same _) refl) _
+rank_same unit f g same dir t = count-same (seen (counts_with unit f t) dir t) (seen (counts_with unit g t) dir t) _ (λ n below. rw (same _) refl)
 
 -- the same tests in another order
 and_order : (a b c d e : Bool) → ((a && (b && c && d)) && e) ≡ ((((a && c) && b) && d) && e)

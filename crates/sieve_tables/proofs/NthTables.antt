@@ -1,20 +1,19 @@
 -- The tables of listed weekdays.
-use Rattle.std.proofs.Common.{◌≡◌, ℕ, zero, suc, ◌+◌, ◌-◌, ◌*◌, ◌<◌, ◌≤◌, ◌^◌, ℤ, pos, negsuc, Bool, true, false, not, ◌&&◌, ◌||◌, ◌==◌, nat_lt, List, [], ◌∷◌, length, take, get_or, refl, sym, ap, subst, ◌∙◌, arith}
+use Rattle.std.proofs.Common.{◌≡◌, ℕ, zero, suc, ◌+◌, ◌-◌, ◌*◌, ◌<◌, ◌^◌, ℤ, pos, negsuc, Bool, true, false, not, ◌&&◌, ◌||◌, ◌==◌, nat_lt, List, [], ◌∷◌, length, take, get_or, refl, sym, ap, subst, ◌∙◌, arith}
 use Rattle.std.specs.Prelude.{neg_ℤ, slice_index_or, All, ◌<ℤ◌}
 use Rattle.std.specs.Int.{IsInRange}
 use Rattle.std.specs.List.{list_all, list_any}
 use Rattle.std.specs.Ordering.{int_eq}
-use Rattle.std.proofs.lemmas.Bool.{and_parts}
+use Rattle.std.proofs.lemmas.Bool.{and_right}
 use Rattle.std.proofs.lemmas.Bool.Decides.{nat_tests}
 use Rattle.std.proofs.lemmas.Int.{ints}
-use Rattle.std.proofs.lemmas.List.{take_all}
 use Rattle.std.proofs.lemmas.List.Elements.{All-more, All-head}
 use Rattle.std.proofs.lemmas.List.Folds.{list_any_more}
 use Rattle.rule_core.specs.IcalChecks.{has_ordinal}
 use Rattle.rule_core.specs.Values.{is_given}
 use Rattle.rule_core.specs.declared.lists.DayItem.{DayItem}
 use Rattle.sieve_core.specs.Bits.{has_bit, is_zero}
-use Rattle.sieve_tables.specs.Lowered.{IsDayEntry, IsDayTableOf, IsNthTableOf, has_nth, has_place, is_by_itself, place_of}
+use Rattle.sieve_tables.specs.Lowered.{IsDayEntry, IsDayTableOf, IsNthTableOf, has_nth, has_place, is_by_itself}
 use Rattle.sieve_tables.proofs.Filled.{and_any, any_same_all, zero_bits}
 use Rattle.sieve_tables.proofs.WeekdayLemmas.{zero_words}
 
@@ -60,11 +59,7 @@ ordinal_front w v item some entry = by_nth (w == item.day) item.nth entry
     by_nth : (b : Bool) (x : ℤ) → (neg_ℤ (pos 64) <ℤ x) × (x <ℤ pos 64) → (nat_lt v 64 && ((b && not (int_eq x (pos 0))) && has_place 64 v x)) ≡ (b && int_eq x (pos v))
     by_nth true (pos n) entry = grind (arith, ints, nat_tests, entry.1)
     by_nth true (negsuc n) entry = grind (arith, ints, nat_tests)
-    by_nth false x entry = and_none (nat_lt v 64)
-      where
-        and_none : (b : Bool) → (b && false) ≡ false
-        and_none true = refl
-        and_none false = refl
+    by_nth false x entry = and_right (nat_lt v 64) false refl
 
 ordinal_back : (w v : ℕ) (item : DayItem) → 0 < v → IsDayEntry item → (nat_lt v 64 && (has_nth w item && has_place 64 (64 + v) item.nth)) ≡ ((w == item.day) && int_eq item.nth (neg_ℤ (pos v)))
 ordinal_back w v item some entry = by_nth (w == item.day) item.nth entry
@@ -72,11 +67,7 @@ ordinal_back w v item some entry = by_nth (w == item.day) item.nth entry
     by_nth : (b : Bool) (x : ℤ) → (neg_ℤ (pos 64) <ℤ x) × (x <ℤ pos 64) → (nat_lt v 64 && ((b && not (int_eq x (pos 0))) && has_place 64 (64 + v) x)) ≡ (b && int_eq x (neg_ℤ (pos v)))
     by_nth true (pos n) entry = grind (arith, ints, nat_tests, entry.1)
     by_nth true (negsuc n) entry = grind (arith, ints, nat_tests, entry.0)
-    by_nth false x entry = and_none (nat_lt v 64)
-      where
-        and_none : (b : Bool) → (b && false) ≡ false
-        and_none true = refl
-        and_none false = refl
+    by_nth false x entry = and_right (nat_lt v 64) false refl
 
 -- what holds of seven tables, one for each weekday
 pub each_day : (P : ℕ → List ℕ → Type 0) (a b c d e f g : List ℕ) → P 1 a → P 2 b → P 3 c → P 4 d → P 5 e → P 6 f → P 7 g
@@ -112,11 +103,7 @@ module _ (week_days : ℕ) (nth : List (List ℕ)) (items : List DayItem) (table
       same_day = grind (arith, nat_tests)
 
       of_table : (b : Bool) → list_all is_zero nth ≡ b → has_ordinal item ≡ true → ((week_days == 0) && b) ≡ false
-      of_table false e ordinal = and_none (week_days == 0)
-        where
-          and_none : (b : Bool) → (b && false) ≡ false
-          and_none true = refl
-          and_none false = refl
+      of_table false e ordinal = and_right (week_days == 0) false refl
       of_table true e ordinal =
           let empty = zero_words nth (item.day - 1) e in
           let filled : is_zero (slice_index_or nth (item.day - 1) []) ≡ false = (tables item.day weekday).none ∙ rw (given, same_day, ordinal) refl in

@@ -2,15 +2,17 @@
 use Rattle.std.proofs.Common.{◌≡◌, ℕ, zero, suc, ◌+◌, ◌-◌, ◌*◌, nat_lt, length, ℤ, pos, Bool, true, false, not, ◌&&◌, ◌||◌, ◌==◌, List, [], ◌∷◌, refl, sym, ap, ◌∙◌, arith}
 use Rattle.std.specs.Prelude.{neg_ℤ, slice_index_or}
 use Rattle.std.specs.Int.{IsInRange}
-use Rattle.std.proofs.lemmas.Bool.{and_parts}
+use Rattle.std.proofs.lemmas.Bool.{and_parts, and_right}
 use Rattle.std.specs.List.{list_all, list_any}
 use Rattle.std.specs.Ordering.{int_eq}
 use Rattle.moment_core.specs.Calendar.{weekday_of, day_of_month}
-use Rattle.moment_core.specs.Units.{from_end, nth_of, month_len_of, year_len_of, day_of_year}
+use Rattle.moment_core.specs.Units.{from_end, nth_of, month_len_of, year_len_of, day_of_year, is_nth as is_nth_item}
 use Rattle.moment_core.proofs.FloorLemmas.{floor_arith}
+use Rattle.moment_core.proofs.Lists.{any_same}
+use Rattle.moment_core.proofs.Truths.{or_assoc}
 use Rattle.rule_core.specs.declared.lists.DayItem.{DayItem}
 use Rattle.rule_core.specs.IcalChecks.{has_ordinal}
-use Rattle.rule_core.specs.IcalMembers.{is_day_item, is_nth as is_nth_item}
+use Rattle.rule_core.specs.IcalMembers.{is_day_item}
 use Rattle.rule_core.specs.Values.{is_given}
 use Rattle.sieve_core.specs.Bits.{has_bit, is_in_signed, is_zero}
 use Rattle.sieve_core.specs.Days.{is_nth, is_nth_weekday, meets_weekdays}
@@ -22,17 +24,9 @@ any_or : {X : Type 0} (p q : X → Bool) (xs : List X) → list_any (λ x. p x |
 any_or p q [] = refl
 any_or p q (x ∷ xs) = rw (any_or p q xs) (or_swap (p x) (q x) (list_any p xs) (list_any q xs))
 
-any_same : {X : Type 0} (p q : X → Bool) → ((x : X) → p x ≡ q x) → (xs : List X) → list_any p xs ≡ list_any q xs
-any_same p q same [] = refl
-any_same p q same (x ∷ xs) = rw (same x, any_same p q same xs) refl
-
 spread : (a n x y : Bool) → (a && (n || (x || y))) ≡ ((a && n) || ((a && x) || (a && y)))
 spread true n x y = refl
 spread false n x y = refl
-
-or_assoc : (a b c : Bool) → ((a || b) || c) ≡ (a || (b || c))
-or_assoc true b c = refl
-or_assoc false b c = refl
 
 -- an item of weekday w, for the day that is v of len
 abbrev is_item : ℕ → ℕ → ℕ → DayItem → Bool
@@ -68,14 +62,10 @@ zero_words [] k each = refl
 zero_words (words ∷ nth) zero each = (and_parts (is_zero words) (list_all is_zero nth) each).0
 zero_words (words ∷ nth) (suc k) each = zero_words nth k (and_parts (is_zero words) (list_all is_zero nth) each).1
 
-and_none : (b : Bool) → (b && false) ≡ false
-and_none true = refl
-and_none false = refl
-
 none_signed : (words : List ℕ) (v w : ℕ) → is_zero words ≡ true → is_in_signed words v w ≡ false
 unfolding is_in_signed
 none_signed words v w empty =
-    rw (zero_bits words v empty, zero_bits words (32 * length words + w) empty, and_none (nat_lt v (32 * length words)), and_none (nat_lt w (32 * length words))) refl
+    rw (zero_bits words v empty, zero_bits words (32 * length words + w) empty, and_right (nat_lt v (32 * length words)) false refl, and_right (nat_lt w (32 * length words)) false refl) refl
 
 alone_of : (a b x n : Bool) → b ≡ true → n ≡ false → (((a && b) || x) || n) ≡ (a || x)
 alone_of true true x false p q = refl

@@ -47,7 +47,9 @@ pub record IsDayTableOf (week_days : ℕ) (nth : List (List ℕ)) (items : List 
 
 -- the tables and masks of a rule's test of days
 pub record IsDayTestOf (r : IcalRule) (d : DayTest) : Type 0 where
-  pub months : (m : ℕ) → 0 < m → m < 13 → ((d.months == 0) || has_bit (d.months ∷ []) m) ≡ (not (is_given (filled r).by_month) || lists (filled r).by_month (pos m))
+  pub months : (m : ℕ) → 0 < m → m < 13
+      → ((d.months == 0) || has_bit (d.months ∷ []) m)
+      ≡ (not (is_given (filled r).by_month) || lists (filled r).by_month (pos m))
   pub first : d.first ≡ r.week_start
   pub weekday : IsInRange 1 7 r.week_start
   pub weeks : IsTableOf d.weeks 64 (filled r).by_week
@@ -78,7 +80,8 @@ has_until s until t = int_le s.first.0 t && meets_rule s t && is_by until t
 
 -- there they are those of the rule without its COUNT
 abbrev pub SievesHaveRules : Type 0
-SievesHaveRules = (r : IcalRule) (s : Sieve) → IsSieveOf r s → (t : ℤ) → has_until s r.until t ≡ has_uncounted r t
+SievesHaveRules =
+    (r : IcalRule) (s : Sieve) → IsSieveOf r s → (t : ℤ) → has_until s r.until t ≡ has_uncounted r t
 
 -- where a signed table has a value
 abbrev pub place_of : ℕ → ℤ → ℕ
@@ -108,5 +111,7 @@ has_nth w item = (w == item.day) && has_ordinal item
 -- the signed table of the ordinals that are listed with a weekday
 pub record IsNthTableOf (words : List ℕ) (w : ℕ) (items : List DayItem) : Type 0 where
   pub two : length words ≡ 2
-  pub bits : (j : ℕ) → has_bit words j ≡ list_any (λ (item : DayItem). has_nth w item && has_place 64 j item.nth) items
+  pub bits : (j : ℕ)
+      → has_bit words j
+      ≡ list_any (λ (item : DayItem). has_nth w item && has_place 64 j item.nth) items
   pub none : is_zero words ≡ not (list_any (has_nth w) items)

@@ -61,7 +61,8 @@ pub fn full_mask(len: u8) -> u64
     (1 << len) - 1
 }
 
-/// The mask of a list of numbers below `len`, none of them below 0. It is zero exactly where no number is listed.
+/// The mask of a list of numbers below `len`, none of them below 0. It is zero exactly where no
+/// number is listed.
 pub fn plain_mask(values: &[i64], len: u8) -> u64
     requires len { len ≤ 63 }
     requires values { All (IsPlain len) values.now }
@@ -72,7 +73,8 @@ pub fn plain_mask(values: &[i64], len: u8) -> u64
     mask_of(values, len)
 }
 
-/// The mask of a list of numbers below `len`, none of them below 0, and of all of these where no number is listed.
+/// The mask of a list of numbers below `len`, none of them below 0, and of all of these where no
+/// number is listed.
 pub fn listed_mask(values: &[i64], len: u8) -> u64
     requires len { len ≤ 63 }
     requires values { All (IsPlain len) values.now }

@@ -12,8 +12,9 @@ use rule_core::DayItem;
 /// The numbers of the table of one weekday's ordinals.
 const HALF: usize = 64;
 
-/// The tables of listed weekdays: the mask of those by themselves, the weekday `w` at bit `w`, and for each weekday, from
-/// Monday on, the signed table of the ordinals that are listed with it. An ordinal is at most 63, from either end.
+/// The tables of listed weekdays: the mask of those by themselves, the weekday `w` at bit `w`, and
+/// for each weekday, from Monday on, the signed table of the ordinals that are listed with it. An
+/// ordinal is at most 63, from either end.
 pub fn weekday_tables(items: &[DayItem]) -> (u8, [[u64; 2]; 7])
     requires { All IsDayEntry items.now }
     ensures { IsDayTableOf result.0 result.1 items.now }

@@ -2,29 +2,23 @@
 use Rattle.std.proofs.Common.{◌≡◌, ◌↔◌, refl, sym, ◌∙◌, arith, ℤ, pos, ◌+ℤ◌, ◌≤ℤ◌, true, false, ◌&&◌, int_le, if◌then◌else◌}
 use Rattle.std.proofs.lemmas.Bool.{and_parts, and_from}
 use Rattle.std.proofs.lemmas.Int.{ints}
-use Rattle.std.specs.Ordering.{int_eq}
 use Rattle.moment_core.specs.Line.{moment_of, position_of}
 use Rattle.span_core.specs.Bounds.{ends_after, high_bound, is_moment, lies_between, low_bound, reaches}
 use Rattle.span_core.specs.declared.bounds.Bound.TheVariants.{Closed, Open}
 use Rattle.moment_core.proofs.LineLaws.{halves}
-use Rattle.moment_core.proofs.Comparing.{int_le-below, int_le-true, le-int_le}
-
-same_from_int_eq : (x y : ℤ) → int_eq x y ≡ true → x ≡ y
-same_from_int_eq x y e = grind (arith, ints)
-
-apart_from_int_eq : (x y : ℤ) → int_eq x y ≡ false → x ≤ℤ y → (x +ℤ pos 1) ≤ℤ y
-apart_from_int_eq x y e h = grind (arith, ints)
+use Rattle.moment_core.proofs.Comparing.{int_le-below, int_le-true, le-int_le, int_eq-is, less_if_other}
 
 pub at_moment : (p : ℤ) → is_moment p ≡ true → position_of (moment_of p) ≡ p
-at_moment p e = same_from_int_eq (position_of (moment_of p)) p e
+at_moment p e = int_eq-is (position_of (moment_of p)) p e
 
 pub at_open_second : (p : ℤ) → is_moment p ≡ false → position_of (moment_of p) +ℤ pos 1 ≡ p
 at_open_second p e =
     let near = halves p in
-    let past : (position_of (moment_of p) +ℤ pos 1) ≤ℤ p = apart_from_int_eq (position_of (moment_of p)) p e near.0 in
+    let past : (position_of (moment_of p) +ℤ pos 1) ≤ℤ p = less_if_other (position_of (moment_of p)) p e near.0 in
     omega (arith, ints)
 
--- a run's lower bound reaches the positions from its first one on, and its upper bound ends after the last one
+-- a run's lower bound reaches the positions from its first one on, and its upper bound ends after
+-- the last one
 pub reaches-low_bound : (first p : ℤ) → reaches (low_bound first) p ≡ int_le first p
 reaches-low_bound first p = elim (is_moment first) as (λ b. is_moment first ≡ b → reaches (if b then Closed (record { 0 = moment_of first }) else Open (record { 0 = moment_of first })) p ≡ int_le first p) [
   | true ↦ λ e. rw (at_moment first e) refl

@@ -1,5 +1,5 @@
 -- Every search has an answer, and one alone.
-use Rattle.std.proofs.Common.{◌≡◌, ◌⊎◌, inl, inr, ap, refl, sym, subst, ◌∙◌, arith, ℕ, zero, suc, ◌≤◌, ℤ, ◌-ℤ◌, unsigned_abs, Bool, true, false, not, Option, Some, None}
+use Rattle.std.proofs.Common.{◌≡◌, ◌⊎◌, inl, inr, ap, refl, sym, subst, ◌∙◌, arith, ℕ, zero, suc, ◌≤◌, ℤ, ◌-ℤ◌, unsigned_abs, Bool, Option, Some, None}
 use Rattle.std.proofs.lemmas.Bool.{cases_order}
 use Rattle.std.proofs.lemmas.Int.{ints}
 use Rattle.moment_core.specs.Line.{IsCalendarPosition, position_of}
@@ -9,7 +9,8 @@ use Rattle.moment_core.specs.declared.line.Dir.TheVariants.{Fore, Back}
 use Rattle.moment_core.specs.declared.line.Pos.{Pos}
 use Rattle.moment_core.specs.declared.line.TheConstants.{LOW, HIGH}
 use Rattle.moment_core.specs.declared.line.Window.{Window}
-use Rattle.moment_core.proofs.LineLaws.{not_both, one_change, seen-zero}
+use Rattle.moment_core.proofs.LineLaws.{one_change, seen-zero}
+use Rattle.moment_core.proofs.Truths.{same_or_not, not_both}
 use Rattle.span_core.specs.Answers.{IsFound}
 use Rattle.span_core.specs.declared.answers.Answer.{Answer}
 use Rattle.span_core.specs.declared.answers.Answer.TheVariants.{At, None as Never, Edge, Budget}
@@ -27,18 +28,12 @@ pub steps-in_range : (dir : Dir) (p : ℤ) (k : ℕ) → IsCalendarPosition p �
 steps-in_range Fore p k h near = (omega (arith, ints), omega (arith, ints))
 steps-in_range Back p k h near = (omega (arith, ints), omega (arith, ints))
 
-same_or_other : (x y : Bool) → (x ≡ y) ⊎ (x ≡ not y)
-same_or_other true true = inl refl
-same_or_other true false = inr refl
-same_or_other false true = inr refl
-same_or_other false false = inl refl
-
 -- within n steps nothing differs, or something differs first
 pub first_difference : (f : ℕ → Bool) (n : ℕ) → ((k : ℕ) → k ≤ n → f k ≡ f 0) ⊎ ((m : ℕ) × (m ≤ n) × DiffersFirst f m)
 first_difference f zero = inl (λ k h. ap f (omega arith))
 first_difference f (suc n) = elim (first_difference f n) [
   | inr d ↦ let near : d.0 ≤ n = d.1 in inr (d.0, omega arith, d.2)
-  | inl same ↦ elim (same_or_other (f (suc n)) (f 0)) [
+  | inl same ↦ elim (same_or_not (f (suc n)) (f 0)) [
     | inl e ↦ inl (λ k h. elim (cases_order k (suc n)) [
       | inl last ↦ ap f last ∙ e
       | inr other ↦ elim other [

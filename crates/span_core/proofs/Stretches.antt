@@ -11,7 +11,8 @@ use Rattle.span_core.specs.declared.bounds.Bound.TheVariants.{Closed, Open, Inf,
 use Rattle.span_core.specs.declared.stretch.Empty.{Empty}
 use Rattle.moment_core.proofs.Comparing.{int_le-below, int_le-false, int_le-true, le-int_le, lt-int_le}
 
--- where there is a first position, the positions from it on are those that a low bound reaches, else all are
+-- where there is a first position, the positions from it on are those that a low bound reaches,
+-- else all are
 pub reaches-from : (low : Bound) (first : Pos) → first_from low ≡ Some first → (p : ℤ) → reaches low p ≡ int_le first.0 p
 reaches-from (Closed t) first e p = cc
 reaches-from (Open t) first e p = cc
@@ -112,7 +113,8 @@ apart-IsGap high low last first e f gap =
     let below = int_le-false first.0 p (sym (reaches-from low first f p) ∙ gap.2) in
     omega (arith, ints)
 
--- what lies above one low bound and below another high one lies in one of the two spans, where no gap is between them
+-- what lies above one low bound and below another high one lies in one of the two spans, where no
+-- gap is between them
 joined : (a b c d : Bound) (q : ℤ) → (IsGap b c → ⊥) → reaches a q ≡ true → ends_after d q ≡ true → (lies_between a b q || lies_between c d q) ≡ true
 joined a b c d q no_gap low high =
     elim (cases_Bool (ends_after b q)) [

@@ -1,16 +1,19 @@
 -- What a search for the next change answers, over any set of positions.
-use Rattle.std.specs.Prelude.{◌≡◌, ◌<◌, ◌≤◌, ℕ, ℤ, pos, ◌+ℤ◌, ◌-ℤ◌, ◌≤ℤ◌, Bool, Option, Some, None}
+use Rattle.std.specs.Prelude.{◌≡◌, ◌<◌, ◌≤◌, ℕ, ℤ, pos, ◌+ℤ◌, ◌-ℤ◌, Bool, Option, Some, None}
 use Rattle.moment_core.specs.Line.{IsCalendarMoment, IsCalendarPosition, moment_of, position_of}
-use Rattle.moment_core.specs.Sets.{ahead, seen, IsNextChange, StaysInRange}
+use Rattle.moment_core.specs.Sets.{ahead, seen, IsNextChange, StaysInRange, IsUpTo}
 use Rattle.moment_core.specs.declared.line.Dir.{Dir}
 use Rattle.moment_core.specs.declared.line.Dir.TheVariants.{Fore, Back}
 use Rattle.moment_core.specs.declared.line.TheConstants.{LOW, HIGH}
 use Rattle.moment_core.specs.declared.line.Window.{Window}
 use Rattle.span_core.specs.declared.answers.Answer.{Answer}
 use Rattle.span_core.specs.declared.answers.Answer.TheVariants.{At, None as Never, Edge, Budget}
+use Rattle.span_core.specs.declared.answers.Item.{Item}
+use Rattle.span_core.specs.declared.answers.Item.TheVariants as items
 use Rattle.span_core.specs.declared.answers.Near.{Near}
 use Rattle.span_core.specs.declared.answers.Near.TheVariants as nears
 use Rattle.span_core.specs.declared.answers.Stop.{Stop}
+use Rattle.span_core.specs.declared.answers.Why.TheVariants as whys
 use Rattle.span_core.specs.Bounds.{IsCalendarRun}
 
 -- the answer at p, where `window` is the one after which the set repeats, if there is one in the
@@ -30,11 +33,6 @@ end_of Back (Never w) = w.lo.0
 end_of Fore Edge = position_of HIGH
 end_of Back Edge = position_of LOW
 end_of dir (Budget s) = s.at.0
-
--- the position is not past the end, in the direction
-abbrev pub IsUpTo : Dir → ℤ → ℤ → Type 0
-IsUpTo Fore end q = q ≤ℤ end
-IsUpTo Back end q = end ≤ℤ q
 
 -- what is counted between two positions, from p to the position n steps on
 abbrev pub counted_to : (ℤ → ℤ → ℕ) → Dir → ℤ → ℕ → ℕ
@@ -72,3 +70,11 @@ IsCalendarNear (nears.Found run) = IsCalendarRun run
 IsCalendarNear (nears.None w) = IsCalendarWindow w
 IsCalendarNear nears.Edge = Unit {0}
 IsCalendarNear (nears.Budget s) = Unit {0}
+
+-- and of an item of a walk
+abbrev pub IsCalendarItem : Item → Type 0
+IsCalendarItem (items.Run run) = IsCalendarRun run
+IsCalendarItem (items.Done whys.To) = Unit {0}
+IsCalendarItem (items.Done (whys.None w)) = IsCalendarWindow w
+IsCalendarItem (items.Done whys.Edge) = Unit {0}
+IsCalendarItem (items.Budget token) = Unit {0}

@@ -1,5 +1,5 @@
 -- What follows from the nearest candidate.
-use Rattle.std.proofs.Common.{inl, inr, ◌≡◌, ℕ, ◌<◌, Bool, true, false, sym, ap, ◌∙◌, arith, ℤ, ◌-ℤ◌, unsigned_abs}
+use Rattle.std.proofs.Common.{inl, inr, ◌≡◌, ℕ, ◌<◌, Bool, true, false, sym, ap, ◌∙◌, arith, ℤ, ◌-ℤ◌, unsigned_abs, subst}
 use Rattle.std.proofs.lemmas.Bool.{cases_order, false_from_ne_true, true≢false}
 use Rattle.std.proofs.lemmas.Int.{ints}
 use Rattle.moment_core.specs.Line.{IsWorkingMoment}
@@ -9,15 +9,8 @@ use Rattle.moment_core.specs.declared.line.Dir.{Dir}
 use Rattle.moment_core.specs.declared.line.Dir.TheVariants.{Fore, Back}
 use Rattle.moment_core.specs.declared.line.Step.{Step}
 use Rattle.moment_core.specs.declared.line.Step.TheVariants.{Hit, Pass, End}
+use Rattle.moment_core.proofs.LineLaws.{same-steps, working-between}
 use Rattle.stored_pair.specs.Recurrences.{AreCandidates, AreNeighbours, NoneUpTo, SkipsNone}
-
-same-steps : (dir : Dir) (t u : ℤ) (n m : ℕ) → u ≡ ahead dir t n → u ≡ ahead dir t m → n ≡ m
-same-steps Fore t u n m x y = omega (arith, ints)
-same-steps Back t u n m x y = omega (arith, ints)
-
-working-between : (dir : Dir) (t u : ℤ) (n k : ℕ) → IsWorkingMoment t → IsWorkingMoment u → u ≡ ahead dir t n → k < n → IsWorkingMoment (ahead dir t k)
-working-between Fore t u n k a b e below = (omega (arith, ints), omega (arith, ints))
-working-between Back t u n k a b e below = (omega (arith, ints), omega (arith, ints))
 
 -- a moment that is no candidate is no member
 no_member : (has cand : ℤ → Bool) (t : ℤ) → AreCandidates has cand → IsWorkingMoment t → cand t ≡ false → has t ≡ false
@@ -26,7 +19,7 @@ no_member has cand t are working e = false_from_ne_true (has t) (λ member. true
 skips-to : (has cand : ℤ → Bool) (dir : Dir) (t u : ℤ) → AreCandidates has cand → IsWorkingMoment t → IsNextCandidate cand dir t u → NoneUpTo has dir t u
 skips-to has cand dir t u are working next = λ n e k some below.
     let same = same-steps dir t u n next.1.0 e next.1.1 in
-    no_member has cand (ahead dir t k) are (working-between dir t u n k working next.0 e below) (next.1.2.none_before k some (omega arith))
+    no_member has cand (ahead dir t k) are (working-between dir t k n working (subst (λ z. IsWorkingMoment z) e next.0) (omega arith)) (next.1.2.none_before k some (omega arith))
 
 -- no member is skipped
 pub skips-none : (has cand : ℤ → Bool) (dir : Dir) (t : ℤ) (step : Step) → AreCandidates has cand → IsWorkingMoment t → IsNextStep has cand dir t step → SkipsNone has dir t step

@@ -4,7 +4,8 @@ use moment_core::{Moment, Stamp, Weekday, in_range};
 use rule_core::{DayItems, Freq, IcalRule, Signed};
 use std::alloc::{AllocError, Global};
 
-/// 2000-01-01T00:00:00, and 9900-12-31T00:00:00, from which on the working range has 32,851 midnights.
+/// 2000-01-01T00:00:00, and 9900-12-31T00:00:00, from which on the working range has 32,851
+/// midnights.
 const EARLY: i64 = 946_684_800;
 
 const LATE: i64 = 250_278_076_800;

@@ -1,6 +1,5 @@
 use Rattle.std.proofs.Common.{List, ℤ, pos, [], ◌∷◌, arith, sym, subst}
 use Rattle.std.specs.Prelude.{All}
-use Rattle.std.proofs.lemmas.Int.{ints}
 use Rattle.moment_core.specs.Calendar.{day_of_month}
 use Rattle.moment_core.specs.TimeOfDay.{day_of}
 use Rattle.rule_core.specs.IcalMembers.{filled, takes_month_day}

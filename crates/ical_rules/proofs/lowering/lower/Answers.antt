@@ -1,4 +1,4 @@
-use Rattle.std.proofs.Common.{◌≡◌, ap, sym, subst, ◌∙◌, arith, Bool, Option, ℤ, int_le}
+use Rattle.std.proofs.Common.{ap, sym, subst, ◌∙◌, arith, Bool, Option, ℤ, int_le}
 use Rattle.std.proofs.lemmas.Int.{ints}
 use Rattle.frame_core.specs.declared.frames.Frame.{Frame}
 use Rattle.moment_core.specs.declared.line.Moment.{Moment}

@@ -1,8 +1,6 @@
 ghost use Rattle.std.specs.Prelude.{◌≡◌, ◌↔◌, ℤ, IsTrue};
 ghost use Rattle.moment_core.specs.Line.{IsCalendarPosition};
-ghost use Rattle.moment_core.specs.Sets.{ahead};
-ghost use Rattle.span_core.specs.Answers.{IsUpTo};
-ghost use Rattle.run_search.specs.Runs.{range_begin, range_end};
+ghost use Rattle.moment_core.specs.Sets.{ahead, IsUpTo, range_begin, range_end};
 
 use moment_core::{Dir, HIGH, LOW, Pos};
 

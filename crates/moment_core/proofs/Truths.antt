@@ -1,0 +1,20 @@
+-- What holds of every truth value.
+use Rattle.std.proofs.Common.{◌≡◌, ◌⊎◌, inl, inr, refl, sym, ◌∙◌, Bool, true, false, not, ◌||◌}
+
+pub or_assoc : (a b c : Bool) → ((a || b) || c) ≡ (a || (b || c))
+or_assoc true b c = refl
+or_assoc false b c = refl
+
+pub same_or_not : (a b : Bool) → (a ≡ b) ⊎ (a ≡ not b)
+same_or_not true true = inl refl
+same_or_not true false = inr refl
+same_or_not false true = inr refl
+same_or_not false false = inl refl
+
+-- none is its own opposite, nor both true and false
+pub not_both : (x : Bool) → x ≡ not x → ⊥
+not_both true e = cc
+not_both false e = cc
+
+pub true-false : (b : Bool) → b ≡ true → b ≡ false → ⊥
+true-false b t f = let e : true ≡ false = sym t ∙ f in absurd cc
