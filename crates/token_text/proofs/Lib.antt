@@ -1,0 +1,4 @@
+mod Apart
+mod Ascii
+mod Cutting
+mod Numerals
