@@ -7,14 +7,14 @@ use Rattle.expr_tokens.specs.Plain.{Token}
 use Rattle.expr_tokens.specs.Plain as tokens
 use Rattle.moment_core.specs.declared.line.Stamp.{Stamp}
 use Rattle.expr_grammar.specs.declared.syntax.SpanBound.{SpanBound}
-use Rattle.expr_grammar.specs.Form.{Form, Span, Joined, Forms}
-use Rattle.expr_grammar.specs.Grammar.{Goes, ends, goes, Chain, MoreMoments, closed, more, IsLow, from_start, from_after, IsHigh, to_end, to_before, Bounds, no_bound, low_bound, high_bound, both_bounds, Leaf, empty, listed, span, rule, Nested, leaf, brackets, inverse, IsExpr, IsAtom, Spells, one, two, nesting_limit}
+use Rattle.expr_grammar.specs.Form.{Form, Span, Rrule, Joined, Forms}
+use Rattle.expr_grammar.specs.Grammar.{Goes, ends, goes, Chain, MoreMoments, closed, more, IsLow, from_start, from_after, IsHigh, to_end, to_before, Bounds, no_bound, low_bound, high_bound, both_bounds, Leaf, empty, listed, span, rule, rrule, rrule_tokens, Nested, leaf, brackets, inverse, IsExpr, IsAtom, Spells, one, two, nesting_limit}
 use Rattle.expr_grammar.specs.Laws.{SpellOne}
 use Rattle.rule_core.specs.declared.part.Freq.{Freq}
 use Rattle.rule_core.specs.declared.part.Freq.TheVariants as freqs
 use Rattle.expr_grammar.specs.Fields.{freq_word}
 use Rattle.expr_grammar.proofs.Rules.{rule_complete}
-use Rattle.expr_grammar.specs.Parsing.{list_at, Read, same, stands, chain_from, chain_at, expr_at, moments_at, close_at, high_end_at, low_end_at, span_at, rule_at, leaf_at, nested_at, atom_at, second_at, program_end_at, program_at}
+use Rattle.expr_grammar.specs.Parsing.{list_at, Read, same, stands, chain_from, chain_at, expr_at, moments_at, close_at, high_end_at, low_end_at, span_at, rrule_at, rule_at, leaf_at, nested_at, atom_at, second_at, program_end_at, program_at}
 
 -- what is spelled so is read, where the rest doesn't go on with it
 abbrev pub IsComplete : (Form → List Token → Type 0) → (List Token → Read) → (List Token → Type 0) → Type 0
@@ -115,10 +115,11 @@ rule_case freqs.Minutely ts = refl
 rule_case freqs.Secondly ts = refl
 
 pub leaf_complete : IsComplete Leaf leaf_at (λ _. Unit {0})
-unfolding leaf_at list_at
+unfolding leaf_at list_at rrule_at
 leaf_complete t front rest empty h = refl
 leaf_complete t front rest (listed m ms ts spelled) h = rw (moments_complete ms ts rest spelled) refl
 leaf_complete t front rest (span a b ts spelled) h = bounds_complete a b ts rest spelled
+leaf_complete t front rest (rrule text start) h = refl
 leaf_complete t front rest (rule freq fields are) h = rule_case freq _ ∙ rule_complete freq fields rest are
 
 module _ (Whole Atom : Form → List Token → Type 0) (whole_at atom : List Token → Read) (whole_complete : IsComplete Whole whole_at StopsAll) (atom_is_complete : IsComplete Atom atom (λ _. Unit {0})) where
@@ -129,6 +130,7 @@ module _ (Whole Atom : Form → List Token → Type 0) (whole_at atom : List Tok
   leaf_case t front rest (listed m ms ts spelled) = refl
   leaf_case t front rest (span a b ts spelled) = refl
   leaf_case t front rest (rule freq fields are) = refl
+  leaf_case t front rest (rrule text start) = refl
 
   pub nested_complete : IsComplete (Nested Whole Atom) (nested_at whole_at atom) (λ _. Unit {0})
   unfolding nested_at close_at

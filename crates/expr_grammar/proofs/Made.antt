@@ -9,7 +9,7 @@ use Rattle.expr_tokens.specs.Plain as tokens
 use Rattle.expr_grammar.specs.declared.syntax.SpanBound.{SpanBound}
 use Rattle.expr_grammar.specs.Fields.{fields_tokens, field_tokens}
 use Rattle.expr_grammar.specs.Form.{FieldForm, Values, Start, Form, Joined, Forms}
-use Rattle.expr_grammar.specs.Grammar.{Goes, ends, goes, Chain, MoreMoments, closed, more, IsLow, from_start, from_after, IsHigh, to_end, to_before, Bounds, no_bound, low_bound, high_bound, both_bounds, Leaf, empty, listed, span, rule, Nested, leaf, brackets, inverse, IsExpr, IsAtom, Spells, one, two, nesting_limit}
+use Rattle.expr_grammar.specs.Grammar.{Goes, ends, goes, Chain, MoreMoments, closed, more, IsLow, from_start, from_after, IsHigh, to_end, to_before, Bounds, no_bound, low_bound, high_bound, both_bounds, Leaf, empty, listed, span, rule, rrule, Nested, leaf, brackets, inverse, IsExpr, IsAtom, Spells, one, two, nesting_limit}
 use Rattle.expr_grammar.specs.Made.{HasMoment, BoundHas, FieldHas, IsMade, AreMade}
 use Rattle.moment_core.proofs.Lists.{all_front, all_behind}
 
@@ -52,6 +52,7 @@ module _ (P : Option Stamp → Type 0) where
   leaf_made t ts empty h = tt
   leaf_made t ts (listed m ms rest spelled) h = (h.1.0, more_made ms rest spelled h.1.1)
   leaf_made t ts (rule freq fields are) h = (fields_made fields (all_front (HasMoment P) (fields_tokens fields) (tokens.Close ∷ []) h.1.1), are)
+  leaf_made t ts (rrule text start) h = h.1.1.1.1.0
   leaf_made t ts (span a b inner spelled) h = bounds_made a b inner spelled (all_front (HasMoment P) inner (tokens.Close ∷ []) h.1.1)
 
   goes_made : (Operand : Form → List Token → Type 0) (op : Op) → Keeps Operand → (left t : Form) (ts : List Token) → Goes Operand op left t ts → IsMade P left → Dates ts → IsMade P t

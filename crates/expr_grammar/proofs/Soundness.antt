@@ -9,9 +9,9 @@ use Rattle.expr_tokens.specs.Plain.{Token}
 use Rattle.expr_tokens.specs.Plain as tokens
 use Rattle.moment_core.specs.declared.line.Stamp.{Stamp}
 use Rattle.expr_grammar.specs.declared.syntax.SpanBound.{SpanBound}
-use Rattle.expr_grammar.specs.Form.{Form, Empty, Listed, Span, Joined, Inverse, Forms}
-use Rattle.expr_grammar.specs.Grammar.{Goes, ends, goes, Chain, MoreMoments, closed, more, IsLow, from_start, from_after, IsHigh, to_end, to_before, Bounds, no_bound, low_bound, high_bound, both_bounds, Leaf, empty, listed, span, rule, Nested, leaf, brackets, inverse, IsExpr, IsAtom, Spells, one, two, nesting_limit}
-use Rattle.expr_grammar.specs.Parsing.{◌>>=◌, Read, same, stands, chain_from, chain_at, expr_at, moments_at, list_at, close_at, high_at, high_end_at, low_end_at, span_at, rule_at, leaf_at, nested_at, atom_at, second_at, program_end_at, program_at}
+use Rattle.expr_grammar.specs.Form.{Form, Empty, Listed, Span, Rrule, Joined, Inverse, Forms}
+use Rattle.expr_grammar.specs.Grammar.{Goes, ends, goes, Chain, MoreMoments, closed, more, IsLow, from_start, from_after, IsHigh, to_end, to_before, Bounds, no_bound, low_bound, high_bound, both_bounds, Leaf, empty, listed, span, rule, rrule, rrule_tokens, Nested, leaf, brackets, inverse, IsExpr, IsAtom, Spells, one, two, nesting_limit}
+use Rattle.expr_grammar.specs.Parsing.{◌>>=◌, Read, same, stands, chain_from, chain_at, expr_at, moments_at, list_at, close_at, high_at, high_end_at, low_end_at, span_at, rrule_at, rule_at, leaf_at, nested_at, atom_at, second_at, program_end_at, program_at}
 use Rattle.expr_grammar.specs.Fields.{rule_tokens}
 use Rattle.expr_grammar.proofs.Rules.{TakesRule, rule_sound}
 use Rattle.expr_grammar.proofs.Parts.{along, bind_some, found, read_is, some_is}
@@ -210,12 +210,21 @@ span_leaf ts t rest h =
 rule_leaf : (ts : List Token) (t : Form) (rest : List Token) → TakesRule ts t rest → Takes Leaf ts t rest
 rule_leaf ts t rest h = record { front = rule_tokens h.freq h.fields; whole = h.whole; spelled = subst (λ (y : Form). Leaf y (rule_tokens h.freq h.fields)) h.is (rule h.freq h.fields h.are) }
 
+rrule_sound : (ts : List Token) (t : Form) (rest : List Token) → rrule_at ts ≡ Some (t, rest)
+    → Takes Leaf (tokens.Word words.Rrule ∷ tokens.Open ∷ ts) t rest
+unfolding rrule_at
+rrule_sound (tokens.Text text ∷ tokens.Comma ∷ tokens.Moment start ∷ tokens.Close ∷ ts) t rest e =
+    along (Takes Leaf (rrule_tokens text start ++ ts)) (Rrule text start) t ts rest e
+    (record { front = rrule_tokens text start; whole = refl; spelled = rrule text start })
+rrule_sound ts t rest e = absurd cc
+
 pub leaf_sound : IsSound Leaf leaf_at
 unfolding leaf_at
 leaf_sound (tokens.Word words.Empty ∷ tokens.Open ∷ tokens.Close ∷ ts) t rest e =
     along (Takes Leaf (tokens.Word words.Empty ∷ tokens.Open ∷ tokens.Close ∷ ts)) Empty t ts rest e
     (record { front = tokens.Word words.Empty ∷ tokens.Open ∷ tokens.Close ∷ []; whole = refl; spelled = empty })
 leaf_sound (tokens.Word words.Span ∷ tokens.Open ∷ ts) t rest e = span_leaf ts t rest (span_sound ts t rest e)
+leaf_sound (tokens.Word words.Rrule ∷ tokens.Open ∷ ts) t rest e = rrule_sound ts t rest e
 leaf_sound (tokens.LeftBrace ∷ ts) t rest e =
     let y = bind_some (list_at ts) (λ ms. Some (Listed ms.0, ms.1)) (t, rest) e in
     let others = list_sound ts y.0 y.1 in

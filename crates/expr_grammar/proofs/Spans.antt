@@ -15,7 +15,7 @@ use Rattle.expr_grammar.specs.Fields.{field_tokens, fields_tokens, freq_word, ke
 use Rattle.expr_grammar.specs.Form.{FieldForm, Values, Start, Form, Empty, Listed, Span, Joined, Inverse, Forms}
 use Rattle.expr_grammar.specs.Laws.{SpansAreNamed}
 use Rattle.expr_grammar.specs.Spans.{all_names, names, spans_in}
-use Rattle.expr_grammar.specs.Grammar.{Goes, ends, goes, Chain, MoreMoments, closed, more, IsLow, from_start, from_after, IsHigh, to_end, to_before, Bounds, no_bound, low_bound, high_bound, both_bounds, Leaf, empty, listed, span, rule, Nested, leaf, brackets, inverse, IsExpr, IsAtom, Spells, one, two, nesting_limit}
+use Rattle.expr_grammar.specs.Grammar.{Goes, ends, goes, Chain, MoreMoments, closed, more, IsLow, from_start, from_after, IsHigh, to_end, to_before, Bounds, no_bound, low_bound, high_bound, both_bounds, Leaf, empty, listed, span, rule, rrule, Nested, leaf, brackets, inverse, IsExpr, IsAtom, Spells, one, two, nesting_limit}
 
 names_append : (xs ys : List Token) → all_names (xs ++ ys) ≡ all_names xs + all_names ys
 names_append [] ys = omega arith
@@ -79,6 +79,7 @@ leaf_names : Counts Leaf
 leaf_names t ts empty = refl
 leaf_names t ts (listed m ms rest spelled) = omega (arith, more_names ms rest spelled)
 leaf_names t ts (rule freq fields are) = omega (arith, freq_unspanned freq, names_append (fields_tokens fields) (tokens.Close ∷ []), fields_names fields)
+leaf_names t ts (rrule text start) = refl
 leaf_names t ts (span a b inner spelled) = omega (arith, names_append inner (tokens.Close ∷ []), bounds_names a b inner spelled)
 
 goes_names : (Operand : Form → List Token → Type 0) (op : Op) → Counts Operand → (left t : Form) (ts : List Token) → Goes Operand op left t ts → spans_in left + all_names ts ≡ spans_in t

@@ -8,9 +8,9 @@ use Rattle.expr_tokens.specs.declared.token.Word.TheVariants as words
 use Rattle.expr_tokens.specs.Plain.{Token}
 use Rattle.expr_tokens.specs.Plain as tokens
 use Rattle.expr_grammar.specs.declared.syntax.SpanBound.{SpanBound}
-use Rattle.expr_grammar.specs.Form.{Form, Empty, Listed, Span, Rule, Joined, Inverse, Forms}
+use Rattle.expr_grammar.specs.Form.{Form, Empty, Listed, Span, Rule, Rrule, Joined, Inverse, Forms}
 use Rattle.expr_grammar.specs.Fields.{rule_tokens}
-use Rattle.expr_grammar.specs.Grammar.{ends, goes, Chain, MoreMoments, closed, more, IsLow, from_start, from_after, IsHigh, to_end, to_before, Bounds, no_bound, low_bound, high_bound, both_bounds, Leaf, empty, listed, span, rule, leaf, brackets, inverse, IsExpr, IsAtom, Spells, one, two, nesting_limit}
+use Rattle.expr_grammar.specs.Grammar.{ends, goes, Chain, MoreMoments, closed, more, IsLow, from_start, from_after, IsHigh, to_end, to_before, Bounds, no_bound, low_bound, high_bound, both_bounds, Leaf, empty, listed, span, rule, rrule, rrule_tokens, leaf, brackets, inverse, IsExpr, IsAtom, Spells, one, two, nesting_limit}
 use Rattle.expr_grammar.specs.Laws.{PrintedIsSpelled}
 use Rattle.expr_grammar.specs.Nesting.{is_joined, AsOperand, NestsWithin, height, HasTokens, in_brackets, more_tokens, low_word, high_word, bounds_tokens, spelled, spelled_second, spelled_program, IsPrintableForm, IsPrintableSecond, IsPrintable}
 
@@ -105,6 +105,8 @@ is_spelled (Listed (m ∷ ms)) depth full nests =
 is_spelled (Span a b) depth full nests =
     from_atom (Span a b) depth (leaf_atom depth (Span a b) (tokens.Word words.Span ∷ tokens.Open ∷ bounds_tokens a b ++ tokens.Close ∷ []) (span a b (bounds_tokens a b) (bounds_spelled a b)))
 is_spelled (Rule freq fields) depth full nests = from_atom (Rule freq fields) depth (leaf_atom depth (Rule freq fields) (rule_tokens freq fields) (rule freq fields full))
+is_spelled (Rrule text start) depth full nests =
+    from_atom (Rrule text start) depth (leaf_atom depth (Rrule text start) (rrule_tokens text start) (rrule text start))
 is_spelled (Joined op a b) depth full nests =
     let xs = in_brackets (is_joined a) (spelled a) in
     let ys = in_brackets (is_joined b) (spelled b) in
@@ -120,6 +122,7 @@ height_positive Empty = omega arith
 height_positive (Listed ms) = omega arith
 height_positive (Span a b) = omega arith
 height_positive (Rule freq fields) = omega arith
+height_positive (Rrule text start) = omega arith
 height_positive (Joined op a b) = omega arith
 height_positive (Inverse t) = omega arith
 
@@ -134,6 +137,7 @@ is_shallow Empty depth le = record { alone = tt; operand = tt }
 is_shallow (Listed ms) depth le = record { alone = tt; operand = tt }
 is_shallow (Span a b) depth le = record { alone = tt; operand = tt }
 is_shallow (Rule freq fields) depth le = record { alone = tt; operand = tt }
+is_shallow (Rrule text start) depth le = record { alone = tt; operand = tt }
 is_shallow (Joined op a b) zero le = absurd (omega (arith, height_positive a, le))
 is_shallow (Joined op a b) (suc depth) le =
     let left : height a ≤ suc depth = omega (arith, le) in

@@ -1,5 +1,5 @@
 -- Expressions as they are written, with what their tokens held.
-use Rattle.std.specs.Prelude.{ℤ, List, Option}
+use Rattle.std.specs.Prelude.{ℕ, ℤ, List, Option}
 use Rattle.moment_core.specs.declared.joining.Op.{Op}
 use Rattle.moment_core.specs.declared.line.Stamp.{Stamp}
 use Rattle.rule_core.specs.declared.part.Freq.{Freq}
@@ -18,6 +18,7 @@ pub data Form : Type 0 where
   Listed : (moments : List (Option Stamp)) → Form
   Span : (low high : Option SpanBound) → Form
   Rule : (freq : Freq) (fields : List FieldForm) → Form
+  Rrule : (text : List ℕ) (start : Option Stamp) → Form
   Joined : (op : Op) (a b : Form) → Form
   Inverse : (a : Form) → Form
 

@@ -8,7 +8,7 @@ use Rattle.expr_tokens.specs.declared.token.Word.TheVariants as words
 use Rattle.expr_tokens.specs.Plain.{Token}
 use Rattle.expr_tokens.specs.Plain as tokens
 use Rattle.expr_grammar.specs.declared.syntax.SpanBound.{SpanBound}
-use Rattle.expr_grammar.specs.Form.{FieldForm, Form, Empty, Listed, Span, Rule, Joined, Inverse, Forms}
+use Rattle.expr_grammar.specs.Form.{FieldForm, Form, Empty, Listed, Span, Rule, Rrule, Joined, Inverse, Forms}
 use Rattle.expr_grammar.specs.Fields.{AreFields, rule_tokens}
 
 -- { op operand }, each joined to what stands to its left
@@ -63,6 +63,12 @@ pub data Bounds : Option SpanBound → Option SpanBound → List Token → Type 
   both_bounds : (a b : SpanBound) (xs ys : List Token) → IsLow a xs → IsHigh b ys
       → Bounds (Some a) (Some b) (xs ++ tokens.Comma ∷ ys)
 
+-- "rrule" "(" text "," moment ")"
+abbrev pub rrule_tokens : List ℕ → Option Stamp → List Token
+rrule_tokens text start =
+    tokens.Word words.Rrule ∷ tokens.Open ∷ tokens.Text text ∷ tokens.Comma ∷ tokens.Moment start
+    ∷ tokens.Close ∷ []
+
 -- an atom without an expression in it
 pub data Leaf : Form → List Token → Type 0 where
   empty : Leaf Empty (tokens.Word words.Empty ∷ tokens.Open ∷ tokens.Close ∷ [])
@@ -72,6 +78,7 @@ pub data Leaf : Form → List Token → Type 0 where
       → Leaf (Span a b) (tokens.Word words.Span ∷ tokens.Open ∷ ts ++ tokens.Close ∷ [])
   rule : (freq : Freq) (fields : List FieldForm) → AreFields fields
       → Leaf (Rule freq fields) (rule_tokens freq fields)
+  rrule : (text : List ℕ) (start : Option Stamp) → Leaf (Rrule text start) (rrule_tokens text start)
 
 -- An atom. Whole says what stands within one more pair of brackets, and Atom what stands behind one
 -- more sign.

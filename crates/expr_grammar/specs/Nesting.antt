@@ -8,8 +8,8 @@ use Rattle.expr_tokens.specs.Plain.{Token}
 use Rattle.expr_tokens.specs.Plain as tokens
 use Rattle.expr_grammar.specs.declared.syntax.SpanBound.{SpanBound}
 use Rattle.expr_grammar.specs.Fields.{AreFields, rule_tokens}
-use Rattle.expr_grammar.specs.Form.{Form, Empty, Listed, Span, Rule, Joined, Inverse, Forms}
-use Rattle.expr_grammar.specs.Grammar.{nesting_limit}
+use Rattle.expr_grammar.specs.Form.{Form, Empty, Listed, Span, Rule, Rrule, Joined, Inverse, Forms}
+use Rattle.expr_grammar.specs.Grammar.{nesting_limit, rrule_tokens}
 
 -- An operand that is itself joined by an operator stands in brackets.
 abbrev pub is_joined : Form → Bool
@@ -30,6 +30,7 @@ NestsWithin Empty depth = Unit {0}
 NestsWithin (Listed ms) depth = Unit {0}
 NestsWithin (Span low high) depth = Unit {0}
 NestsWithin (Rule freq fields) depth = Unit {0}
+NestsWithin (Rrule text start) depth = Unit {0}
 NestsWithin (Joined op a b) depth =
     AsOperand (is_joined a) (NestsWithin a) depth × AsOperand (is_joined b) (NestsWithin b) depth
 NestsWithin (Inverse t) depth = OneDeeper (AsOperand (is_joined t) (NestsWithin t)) depth
@@ -40,6 +41,7 @@ height Empty = 1
 height (Listed ms) = 1
 height (Span low high) = 1
 height (Rule freq fields) = 1
+height (Rrule text start) = 1
 height (Joined op a b) = suc (max (height a) (height b))
 height (Inverse t) = suc (height t)
 
@@ -50,6 +52,7 @@ HasTokens (Listed []) = ⊥
 HasTokens (Listed (m ∷ ms)) = Unit {0}
 HasTokens (Span low high) = Unit {0}
 HasTokens (Rule freq fields) = AreFields fields
+HasTokens (Rrule text start) = Unit {0}
 HasTokens (Joined op a b) = HasTokens a × HasTokens b
 HasTokens (Inverse t) = HasTokens t
 
@@ -86,6 +89,7 @@ unfoldable pub spelled : Form → List Token
 spelled Empty = tokens.Word words.Empty ∷ tokens.Open ∷ tokens.Close ∷ []
 spelled (Listed ms) = tokens.LeftBrace ∷ list_tokens ms
 spelled (Rule freq fields) = rule_tokens freq fields
+spelled (Rrule text start) = rrule_tokens text start
 spelled (Span low high) =
     tokens.Word words.Span ∷ tokens.Open ∷ bounds_tokens low high ++ tokens.Close ∷ []
 spelled (Joined op a b) =

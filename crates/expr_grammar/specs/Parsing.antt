@@ -24,7 +24,7 @@ use Rattle.expr_grammar.specs.declared.syntax.SyntaxTree.{SyntaxTree}
 use Rattle.expr_grammar.specs.Syntax.{field_form, form_of}
 use Rattle.expr_grammar.specs.Fields.{is_single, same_key}
 use Rattle.expr_grammar.specs.Grammar.{nesting_limit}
-use Rattle.expr_grammar.specs.Form.{FieldForm, Values, Start, Form, Empty, Listed, Span, Rule, Joined, Inverse, Forms}
+use Rattle.expr_grammar.specs.Form.{FieldForm, Values, Start, Form, Empty, Listed, Span, Rule, Rrule, Joined, Inverse, Forms}
 
 infixl 10 ◌>>=◌
 abbrev pub ◌>>=◌ : {A B : Type 0} → Option A → (A → Option B) → Option B
@@ -223,9 +223,16 @@ with_freq freq read = read >>= λ fields. Some (Rule freq fields.0, fields.1)
 unfoldable pub rule_at : List Token → Read
 rule_at ts = freq_at ts >>= λ freq. with_freq freq.0 (fields_from (length freq.1) [] freq.1)
 
+-- text "," moment ")"
+unfoldable pub rrule_at : List Token → Read
+rrule_at (tokens.Text text ∷ tokens.Comma ∷ tokens.Moment start ∷ tokens.Close ∷ ts) =
+    Some (Rrule text start, ts)
+rrule_at ts = None
+
 unfoldable pub leaf_at : List Token → Read
 leaf_at (tokens.Word words.Empty ∷ tokens.Open ∷ tokens.Close ∷ ts) = Some (Empty, ts)
 leaf_at (tokens.Word words.Span ∷ tokens.Open ∷ ts) = span_at ts
+leaf_at (tokens.Word words.Rrule ∷ tokens.Open ∷ ts) = rrule_at ts
 leaf_at (tokens.LeftBrace ∷ ts) = list_at ts >>= λ ms. Some (Listed ms.0, ms.1)
 leaf_at ts = rule_at ts
 

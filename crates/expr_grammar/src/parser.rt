@@ -4,7 +4,7 @@ ghost use Rattle.expr_grammar.specs.Form.{Form, Forms, Listed, Span};
 ghost use Rattle.expr_grammar.specs.Syntax.{HasPlaces, KeepsPlaces, form_of, forms_of, places_of, all_places_of, span_places};
 ghost use Rattle.expr_grammar.specs.Moments.{IsNextMoment};
 ghost use Rattle.expr_grammar.specs.Grammar.{SpellNothing, Spells};
-ghost use Rattle.expr_grammar.specs.Parsing.{Gives, ReadsMoments, ReadsTree, deeper_at, operands_at, stands, moment_at, list_at, moments_at, moments_end_at, with_first, close_at, high_at, high_end_at, low_end_at, span_at, leaf_at, atom_at, expr_at, nested_at, operand_at, chain_at, program_end_at, program_at, second_at};
+ghost use Rattle.expr_grammar.specs.Parsing.{Gives, ReadsMoments, ReadsTree, deeper_at, operands_at, stands, moment_at, list_at, moments_at, moments_end_at, with_first, close_at, high_at, high_end_at, low_end_at, span_at, rrule_at, leaf_at, atom_at, expr_at, nested_at, operand_at, chain_at, program_end_at, program_at, second_at};
 
 use crate::fault::ParseFault;
 use crate::fields::rule;
@@ -194,6 +194,37 @@ fn span<'t, 'a>(
     }
 }
 
+/// The text of a recurrence rule, its first moment, and the bracket behind them.
+#[tactic(auto, unfolding(crate::specs::Parsing::rrule_at))]
+fn rrule<'t, 'a>(
+    alloc: Global,
+    tokens: &'t [Token<'a>],
+) -> Result<(SyntaxTree, &'t [Token<'a>]), ParseFault>
+    ensures read { ReadsTree result (rrule_at (plains tokens.now)) }
+    ensures places { IfOk result (KeepsPlaces (span_places tokens.now)) }
+    ensures shorter { IfOk result (λ x. length x.1.now ≤ length tokens.now) }
+{
+    match tokens {
+        [
+            Token::Text(text),
+            Token::Comma,
+            Token::Moment(start, _),
+            Token::Close,
+            rest @ ..,
+        ] => {
+            let text = text.to_vec(alloc)?;
+            Ok((
+                SyntaxTree::Rrule {
+                    text,
+                    start: *start,
+                },
+                rest,
+            ))
+        }
+        _ => Err(ParseFault::Syntax),
+    }
+}
+
 /// An atom without an expression in it.
 #[tactic(auto, unfolding(crate::specs::Parsing::leaf_at))]
 fn leaf<'t, 'a>(
@@ -212,6 +243,7 @@ fn leaf<'t, 'a>(
             rest @ ..,
         ] => Ok((SyntaxTree::Empty, rest)),
         [Token::Word(Word::Span, place), Token::Open, rest @ ..] => span(*place, rest),
+        [Token::Word(Word::Rrule, _), Token::Open, rest @ ..] => rrule(alloc, rest),
         [Token::LeftBrace, rest @ ..] => {
             let (found, rest) = moments(alloc, rest)?;
             Ok((SyntaxTree::List(found), rest))

@@ -56,6 +56,12 @@ pub enum SyntaxTree {
         freq: Freq,
         fields: Vec<Field>,
     },
+    /// `rrule("..", ..)`: the text of a recurrence rule of RFC 5545, and its first moment, with None
+    /// where the literal names no moment of the calendar range.
+    Rrule {
+        text: Vec<u8>,
+        start: Option<Stamp>,
+    },
     /// Two expressions and the operator between them.
     Joined(Op, Box<SyntaxTree>, Box<SyntaxTree>),
     /// `!` before an expression.
@@ -75,6 +81,7 @@ impl Drop for SyntaxTree {
                     high: _,
                 } => return,
                 SyntaxTree::Rule { freq: _, fields: _ } => return,
+                SyntaxTree::Rrule { text: _, start: _ } => return,
                 SyntaxTree::Joined(_, left, _) => self = Box::into_inner(left),
                 SyntaxTree::Inverse(inner) => self = Box::into_inner(inner),
             }

@@ -5,6 +5,7 @@ use Rattle.std.specs.Option.{is_some}
 use Rattle.std.proofs.lemmas.List.{append-nil}
 use Rattle.std.proofs.lemmas.List.Concat.{flat_map-cons}
 use Rattle.moment_core.specs.declared.line.Stamp.{Stamp}
+use Rattle.std.proofs.lemmas.Bool.{or_right}
 use Rattle.rule_core.specs.Values.{is_given}
 use Rattle.expr_grammar.specs.declared.syntax.Key.{Key}
 use Rattle.expr_print.specs.Fields.{fields_text, next_field, numbers_before, start_before}
@@ -15,10 +16,6 @@ one_more true field fields =
     flat_map-cons next_field field fields
     ∙ ap (λ (x : List ℕ). x ++ flat_map next_field fields) (sym (append-nil (next_field field)) ∙ sym (flat_map-cons next_field field []))
 one_more false field fields = ap (λ (x : List ℕ). x ++ flat_map next_field fields) (sym (append-nil field))
-
-or_true : (b : Bool) → (b || true) ≡ true
-or_true true = refl
-or_true false = refl
 
 or_false : (b : Bool) → (b || false) ≡ b
 or_false true = refl
@@ -31,12 +28,12 @@ none_after false = refl
 numbers_more : (after : Bool) (key : Key) (ns : List ℤ) (fields : List (List ℕ))
     → fields_text after (numbers_before key ns fields) ≡ fields_text after (numbers_before key ns []) ++ fields_text (after || is_given ns) fields
 numbers_more after key [] fields = rw (or_false after, none_after after) refl
-numbers_more after key (n ∷ ns) fields = rw (or_true after) (one_more after _ fields)
+numbers_more after key (n ∷ ns) fields = rw (or_right after true refl) (one_more after _ fields)
 
 start_more : (after : Bool) (start : Option Stamp) (fields : List (List ℕ))
     → fields_text after (start_before start fields) ≡ fields_text after (start_before start []) ++ fields_text (after || is_some start) fields
 start_more after None fields = rw (or_false after, none_after after) refl
-start_more after (Some s) fields = rw (or_true after) (one_more after _ fields)
+start_more after (Some s) fields = rw (or_right after true refl) (one_more after _ fields)
 
 -- What was put, and what is still to be put: from one field to the next.
 pub past_numbers : (total out next : List ℕ) (after told : Bool) (key : Key) (ns given : List ℤ) (fields : List (List ℕ)) → given ≡ ns

@@ -67,7 +67,8 @@ sign_text Minus = codes " - "
 
 -- the written form of a rule of RFC 5545 in quotes, and DTSTART
 abbrev pub rrule_text : IcalRule → List ℕ
-rrule_text rule = codes "rrule(\"" ++ text_of rule ++ codes "\", " ++ stamp_text rule.start ++ codes ")"
+rrule_text rule =
+    codes "rrule(\"" ++ text_of rule ++ codes "\", " ++ stamp_text rule.start ++ codes ")"
 
 abbrev pub rule_text : Rule → List ℕ
 rule_text (Listed stamps) = codes "{" ++ stamps_text stamps ++ codes "}"

@@ -1,11 +1,11 @@
 -- Sets made from the leftmost part of an expression outwards.
-use Rattle.std.proofs.Common.{◌≡◌, ℕ, ◌+◌, ◌<◌, ◌≤◌, List, [], ◌∷◌, ◌++◌, Option, Some, None, Result, Ok, refl, ap, sym, subst, ◌∙◌, arith, length-append}
-use Rattle.std.specs.Prelude.{IfSome}
+use Rattle.std.proofs.Common.{◌≡◌, ℕ, ◌+◌, ◌<◌, ◌≤◌, List, [], ◌∷◌, ◌++◌, Option, Some, None, Result, Ok, Err, refl, ap, sym, subst, ◌∙◌, arith, length-append}
+use Rattle.std.specs.Prelude.{IfSome, IsSomeAnd, option_map}
+use Rattle.std.specs.Option.{option_or}
 use denote.Ref.{Bor}
 use Rattle.std.specs.List.{AllByRecursion}
 use Rattle.moment_core.proofs.Lists.{all_both}
 use Rattle.moment_core.specs.declared.joining.Op.{Op}
-use Rattle.rule_core.specs.declared.part.RuleFault.{RuleFault}
 use Rattle.expr_grammar.specs.Form.{Form}
 use Rattle.expr_grammar.specs.Form as forms
 use Rattle.expr_grammar.specs.Made.{IsDated, IsMade}
@@ -13,12 +13,16 @@ use Rattle.expr_grammar.specs.Syntax.{all_places_of, form_of, forms_of, places_o
 use Rattle.expr_grammar.specs.declared.syntax.SyntaxTree.{SyntaxTree}
 use Rattle.expr_grammar.specs.declared.syntax.SyntaxTrees.{SyntaxTrees}
 use Rattle.expr_tree.specs.declared.tree.Expr.{Expr}
+use Rattle.rrule_text.specs.Fault.{Fault as RruleFault, fault_in as fault_in_rrule}
+use Rattle.rrule_text.specs.declared.fault.RruleFault.TheVariants as rrules
+use Rattle.expr_text.specs.declared.building.Unmade.{Unmade}
+use Rattle.expr_text.specs.declared.building.Unmade.TheVariants as unmade
 use Rattle.expr_text.specs.declared.building.Step.{Step}
 use Rattle.expr_text.specs.declared.building.Step.TheVariants as steps
-use Rattle.expr_text.specs.Fault.{Fault}
+use Rattle.expr_text.specs.Fault.{Fault, HasNoInnerMemory}
 use Rattle.expr_text.specs.Fault as faults
-use Rattle.expr_text.specs.Faults.{FirstVacant, HasPosition, second_spans, spans_of}
-use Rattle.expr_text.specs.Making.{HasPartFault, IsMadeOf, IsVacantAt, Makes, Reaches, form_around, places_around}
+use Rattle.expr_text.specs.Faults.{FirstVacant, HasPosition, all_spans_of, rrule_fault, rule_fault, second_spans, spans_of}
+use Rattle.expr_text.specs.Making.{AreBothMade, AreMadeOf, HasPartFault, IsMadeOf, IsVacantAt, Makes, MakesAll, Reaches, form_around, places_around, text_fault}
 use Rattle.expr_text.proofs.Spans.{placed_spans, vacant_behind, vacant_front}
 
 -- how many expressions stand in one
@@ -27,6 +31,7 @@ size_of forms.Empty = 1
 size_of (forms.Listed literals) = 1
 size_of (forms.Span low high) = 1
 size_of (forms.Rule freq fields) = 1
+size_of (forms.Rrule text start) = 1
 size_of (forms.Joined op a b) = 1 + size_of a + size_of b
 size_of (forms.Inverse a) = 1 + size_of a
 
@@ -77,7 +82,7 @@ pub vacant_within : (path : List Step) (t u : Form) (ps qs : List ℕ) (o : Opti
 vacant_within path t u ps qs o e d h = subst (λ (v : Form). IfSome o (IsVacantAt v qs)) e (subst (λ (rs : List ℕ). IfSome o (IsVacantAt (form_around path t) rs)) d (vacant_part path t ps o h))
 
 -- the leftmost part
-pub reaches_left : (tree : SyntaxTree) (t : Form) (ps : List ℕ) (made : Result Expr RuleFault) (path : List Step) → form_around path (form_of tree) ≡ t → places_around path (places_of tree) ≡ ps
+pub reaches_left : (tree : SyntaxTree) (t : Form) (ps : List ℕ) (made : Result Expr Unmade) (path : List Step) → form_around path (form_of tree) ≡ t → places_around path (places_of tree) ≡ ps
     → AllByRecursion HasPosition (spans_of (form_of tree)) → IsMadeOf (form_of tree) made → Reaches t ps made path
 reaches_left tree t ps made path e d held is = record {
   part = form_of tree;
@@ -90,7 +95,7 @@ reaches_left tree t ps made path e d held is = record {
 }
 
 -- back to the operator behind a part, and to the sign before it
-module _ (t : Form) (ps : List ℕ) (made : Result Expr RuleFault) (path : List Step) (h : Reaches t ps made path) where
+module _ (t : Form) (ps : List ℕ) (made : Result Expr Unmade) (path : List Step) (h : Reaches t ps made path) where
   module _ (front : List Step) (op : Op) (right : Bor SyntaxTree) (e : path ≡ front ++ steps.Before op right ∷ []) where
     joined_whole : form_around front (forms.Joined op h.part (form_of right.now)) ≡ t
     joined_whole = sym (form_pushed front (steps.Before op right) h.part) ∙ ap (λ (p : List Step). form_around p h.part) (sym e) ∙ h.whole
@@ -116,7 +121,7 @@ module _ (t : Form) (ps : List ℕ) (made : Result Expr RuleFault) (path : List 
     vacant_right o k =
         vacant_within front (forms.Joined op h.part (form_of right.now)) t (h.part_places ++ places_of right.now) ps o joined_whole joined_places (right_vacant o k)
 
-    pub reaches_joined : (r joined : Result Expr RuleFault) → Makes (form_of right.now) (places_of right.now) (Ok r)
+    pub reaches_joined : (r joined : Result Expr Unmade) → Makes (form_of right.now) (places_of right.now) (Ok r)
         → ((u v : Form) → IsMadeOf u made → IsMadeOf v r → IsMadeOf (forms.Joined op u v) joined) → Reaches t ps joined front
     reaches_joined r joined k is = record {
       part = forms.Joined op h.part (form_of right.now);
@@ -128,7 +133,7 @@ module _ (t : Form) (ps : List ℕ) (made : Result Expr RuleFault) (path : List 
       made_of = is h.part (form_of right.now) h.made_of k.1;
     }
 
-  pub reaches_inverse : (front : List Step) → path ≡ front ++ steps.Behind ∷ [] → (inverse : Result Expr RuleFault)
+  pub reaches_inverse : (front : List Step) → path ≡ front ++ steps.Behind ∷ [] → (inverse : Result Expr Unmade)
       → ((u : Form) → IsMadeOf u made → IsMadeOf (forms.Inverse u) inverse) → Reaches t ps inverse front
   reaches_inverse front e inverse is = record {
     part = forms.Inverse h.part;
@@ -141,7 +146,7 @@ module _ (t : Form) (ps : List ℕ) (made : Result Expr RuleFault) (path : List 
   }
 
 -- the whole expression
-pub made_whole : (t : Form) (ps : List ℕ) (made : Result Expr RuleFault) (path : List Step) → Reaches t ps made path → path ≡ [] → Makes t ps (Ok made)
+pub made_whole : (t : Form) (ps : List ℕ) (made : Result Expr Unmade) (path : List Step) → Reaches t ps made path → path ≡ [] → Makes t ps (Ok made)
 made_whole t ps made path h e =
     let same : h.part ≡ t = ap (λ (p : List Step). form_around p h.part) (sym e) ∙ h.whole in
     subst (λ (u : Form). Makes u ps (Ok made)) same (h.held, h.made_of)
@@ -160,3 +165,32 @@ module _ (p : SyntaxTrees) where
   second_vacant second (Some (faults.Moment byte)) e held h =
       rw e (vacant_behind (spans_of (form_of p.first)) (spans_of (form_of second)) (places_of p.first) (places_of second) byte (placed_spans p.first) held h)
   second_vacant second (Some fault) e held h = absurd h
+
+  module _ (second : SyntaxTree) (e : p.second ≡ Some second)
+      (held : AllByRecursion HasPosition (spans_of (form_of p.first))) (also : AllByRecursion HasPosition (spans_of (form_of second))) where
+    both_held : AllByRecursion HasPosition (all_spans_of (forms_of p))
+    both_held = rw e (all_both HasPosition (spans_of (form_of p.first)) (spans_of (form_of second)) held also)
+
+    text_faulty : (o : Option RruleFault) → option_or (rule_fault (form_of p.first)) (rule_fault (form_of second)) ≡ None
+        → IsSomeAnd o (λ f. option_or (rrule_fault (form_of p.first)) (rrule_fault (form_of second)) ≡ Some f)
+        → IfSome (option_map (λ (f : RruleFault). faults.Rrule f) o) (HasPartFault (forms_of p) (all_places_of p))
+    text_faulty None none some = absurd some
+    text_faulty (Some fault) none some = (both_held, rw e none, rw e some)
+
+    pub both_faulty : (u : Unmade) → AreBothMade (form_of p.first) (form_of second) (Err u) → MakesAll (forms_of p) (all_places_of p) (Err (text_fault u))
+    both_faulty (unmade.Rule fault) h = (both_held, rw e h)
+    both_faulty (unmade.Rrule fault) h = text_faulty (fault_in_rrule fault) h.0 h.1
+
+    pub both_made : (x y : Expr) → IsMadeOf (form_of p.first) (Ok x) → IsMadeOf (form_of second) (Ok y) → AreMadeOf (forms_of p) (record { first = x; second = Some y })
+    both_made x y h k = record {
+      held = both_held;
+      ruled = rw (e, h.0, k.0) refl;
+      written = rw (e, h.1, k.1) refl;
+      trees = rw (e, h.2, k.2) refl;
+    }
+
+-- the fault of two expressions is not want of memory within another fault
+pub both_without_memory : (t u : Form) (x : Unmade) → AreBothMade t u (Err x) → HasNoInnerMemory (text_fault x)
+both_without_memory t u (unmade.Rule fault) h = tt
+both_without_memory t u (unmade.Rrule rrules.Memory) h = absurd h.1
+both_without_memory t u (unmade.Rrule fault) h = tt

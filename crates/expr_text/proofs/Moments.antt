@@ -1,5 +1,5 @@
 -- Expressions whose moments have no fault stand for well-formed trees.
-use Rattle.std.proofs.Common.{◌≡◌, Bool, true, false, List, [], ◌∷◌, Option, Some, None, refl, ap, arith}
+use Rattle.std.proofs.Common.{◌≡◌, ℕ, Bool, true, false, List, [], ◌∷◌, Option, Some, None, Result, Ok, Err, refl, ap, arith}
 use Rattle.std.specs.Prelude.{option_map}
 use Rattle.std.specs.List.{AllByRecursion, filter_map}
 use Rattle.std.proofs.lemmas.List.Elements.{All-from_recursion}
@@ -17,12 +17,17 @@ use Rattle.expr_grammar.specs.Grammar.{Spells}
 use Rattle.expr_grammar.specs.Laws.{MomentsAreKept}
 use Rattle.expr_grammar.specs.Made.{HasMoment, BoundHas, IsDated, IsMade, AreMade}
 use Rattle.moment_core.proofs.Lists.{all_front, all_behind}
-use Rattle.expr_tree.specs.Tree.{Rule, Field, Tree, Empty, Spanned, Ruled, Joined, Not, Trees}
+use Rattle.expr_tree.specs.Tree.{Rule, Field, Ical, Tree, Empty, Spanned, Ruled, Joined, Not, Trees}
 use Rattle.expr_tree.specs.WellFormed.{AreWellFormed, HasClock, IsWellFormed}
 use Rattle.rule_core.specs.FieldChecks.{check_of}
+use Rattle.rule_core.specs.declared.ical.IcalRule.{IcalRule}
+use Rattle.rrule_text.specs.Fault.{Fault as RruleFault}
+use Rattle.rrule_text.specs.Laws.{RulesAreWritable}
+use Rattle.rrule_text.specs.Reading.{rule_of}
 use Rattle.expr_text.specs.Rules.{rule_with}
+use Rattle.expr_text.specs.Rrules.{fault_of, fault_of_text}
 use Rattle.expr_text.proofs.Started.{checked, neither, started}
-use Rattle.expr_text.specs.Faults.{HasPosition, Tokens, all_spans_of, first_nameless, is_nameless, kinds_of, first_rule_fault, rule_fault, second_rule_fault, second_spans, spans_of}
+use Rattle.expr_text.specs.Faults.{HasPosition, Tokens, all_spans_of, first_nameless, is_nameless, kinds_of, first_rrule_fault, first_rule_fault, rrule_fault, rule_fault, second_rrule_fault, second_rule_fault, second_spans, spans_of}
 use Rattle.expr_text.specs.Phases.{AreBoth, HasSpans, IsInRange, IsSecond}
 use Rattle.expr_text.specs.Phases.{first_nameless as nameless_in}
 use Rattle.expr_text.specs.Trees.{both, bound_at, bound_of, clock_at, clock_of, is_named, is_some, listed, stamps_of, tree_from, trees_from}
@@ -85,6 +90,7 @@ has_spans forms.Empty h held = tt
 has_spans (forms.Listed ms) h held = tt
 has_spans (forms.Span low high) h held = record { low_given = given low h.0; high_given = given high h.1; some = held.0 }
 has_spans (forms.Rule freq fields) h held = tt
+has_spans (forms.Rrule text start) h held = tt
 has_spans (forms.Joined op a b) h held =
     (has_spans a h.0 (all_front HasPosition (spans_of a) (spans_of b) held), has_spans b h.1 (all_behind HasPosition (spans_of a) (spans_of b) held))
 has_spans (forms.Inverse a) h held = has_spans a h held
@@ -134,55 +140,77 @@ has_clock : (b : Option SpanBound) → BoundHas IsDated b → HasClock (bound_of
 has_clock None h = ((λ _. refl), (λ _. refl))
 has_clock (Some b) h = clock_at_bound b.closed b.stamp h
 
--- a tree, which is well formed where its rules have no fault
+-- a tree, which is well formed
 pub record Stands (t : Form) : Type 0 where
   pub tree : Tree Rule
   pub is : tree_from t ≡ Some tree
-  pub well_formed : rule_fault t ≡ None → IsWellFormed tree
+  pub well_formed : IsWellFormed tree
 
-pub stands : (t : Form) → IsMade IsDated t → HasSpans t → Stands t
-stands forms.Empty h spans = record { tree = Empty; is = refl; well_formed = λ none. tt }
-stands (forms.Listed []) h spans = absurd h
-stands (forms.Listed (None ∷ ms)) h spans = absurd h.0
-stands (forms.Listed (Some s ∷ ms)) h spans =
-    let others = stamped ms h.1 in
-    record {
-      tree = listed (s ∷ others.stamps);
-      is = rw others.are refl;
-      well_formed = λ none. (omega arith, All-from_recursion (λ (x : Stamp). IsCalendarMoment x.moment.0) (s ∷ others.stamps) (h.0, others.in_range));
-    }
-stands (forms.Span low high) h spans = record {
-  tree = Spanned (bound_of low, bound_of high) (clock_of low) (clock_of high);
-  is = rw (named low h.0, named high h.1) refl;
-  well_formed = λ none. (spans, has_clock low h.0, has_clock high h.1);
-}
-stands (forms.Rule freq fields) h spans =
-    let x = started fields h.0 in
-    record {
-      tree = Ruled (Field (rule_with freq fields x.start));
-      is = rw x.found refl;
-      well_formed = λ none. (checked (check_of (rule_with freq fields x.start)) (rw x.found at none), x.in_range);
-    }
-stands (forms.Joined op a b) h spans =
-    let x = stands a h.0 spans.0 in
-    let y = stands b h.1 spans.1 in
-    record { tree = Joined op x.tree y.tree; is = rw (x.is, y.is) refl; well_formed = λ none. let both = neither (rule_fault a) (rule_fault b) none in (x.well_formed both.0, y.well_formed both.1) }
-stands (forms.Inverse a) h spans = let x = stands a h spans in record { tree = Not x.tree; is = rw x.is refl; well_formed = x.well_formed }
-
--- the same of one or two expressions
+-- one or two expressions, of which none has a fault
 pub record AllStand (p : Forms) : Type 0 where
   pub trees : Trees
   pub are : trees_from p ≡ Some trees
   pub well_formed : AreWellFormed trees
 
-with_second : (t : Form) (o : Option Form) → Stands t → IsSecond (IsMade IsDated) o → IsSecond HasSpans o
-    → rule_fault t ≡ None → second_rule_fault o ≡ None → AllStand (record { first = t; second = o })
-with_second t None x h spans none also = record { trees = record { first = x.tree; second = None }; are = rw x.is refl; well_formed = (x.well_formed none, tt) }
-with_second t (Some u) x h spans none also =
-    let y = stands u h spans in
-    record { trees = record { first = x.tree; second = Some y.tree }; are = rw (x.is, y.is) refl; well_formed = (x.well_formed none, y.well_formed also) }
+-- no rule has a fault
+pub record HasRules (t : Form) : Type 0 where
+  pub fields : rule_fault t ≡ None
+  pub texts : rrule_fault t ≡ None
 
-pub all_stand : (p : Forms) → AreBoth (IsMade IsDated) p → AreBoth HasSpans p → first_rule_fault p ≡ None → AllStand p
-all_stand p h spans none =
-    let both = neither (rule_fault p.first) (second_rule_fault p.second) none in
-    with_second p.first p.second (stands p.first h.0 spans.0) h.1 spans.1 both.0 both.1
+module _ (writable : RulesAreWritable) where
+  text_stands : (text : List ℕ) (s : Stamp) → IsCalendarMoment s.moment.0 → fault_of_text text (Some s) ≡ None → Stands (forms.Rrule text (Some s))
+  text_stands text s within none = by_reading (rule_of text s) refl none
+    where
+      by_reading : (r : Result IcalRule RruleFault) → rule_of text s ≡ r → fault_of r ≡ None → Stands (forms.Rrule text (Some s))
+      by_reading (Err fault) e d = absurd cc
+      by_reading (Ok rule) e d =
+          let kept = writable text s rule e in
+          record { tree = Ruled (Ical rule); is = rw e refl; well_formed = (kept.writable, kept.weekdays, rw kept.start_kept within) }
+
+  pub stands : (t : Form) → IsMade IsDated t → HasSpans t → HasRules t → Stands t
+  stands forms.Empty h spans rules = record { tree = Empty; is = refl; well_formed = tt }
+  stands (forms.Listed []) h spans rules = absurd h
+  stands (forms.Listed (None ∷ ms)) h spans rules = absurd h.0
+  stands (forms.Listed (Some s ∷ ms)) h spans rules =
+      let others = stamped ms h.1 in
+      record {
+        tree = listed (s ∷ others.stamps);
+        is = rw others.are refl;
+        well_formed = (omega arith, All-from_recursion (λ (x : Stamp). IsCalendarMoment x.moment.0) (s ∷ others.stamps) (h.0, others.in_range));
+      }
+  stands (forms.Span low high) h spans rules = record {
+    tree = Spanned (bound_of low, bound_of high) (clock_of low) (clock_of high);
+    is = rw (named low h.0, named high h.1) refl;
+    well_formed = (spans, has_clock low h.0, has_clock high h.1);
+  }
+  stands (forms.Rule freq fields) h spans rules =
+      let x = started fields h.0 in
+      record {
+        tree = Ruled (Field (rule_with freq fields x.start));
+        is = rw x.found refl;
+        well_formed = (checked (check_of (rule_with freq fields x.start)) (rw x.found at rules.fields), x.in_range);
+      }
+  stands (forms.Rrule text None) h spans rules = absurd h
+  stands (forms.Rrule text (Some s)) h spans rules = text_stands text s h rules.texts
+  stands (forms.Joined op a b) h spans rules =
+      let fields = neither (rule_fault a) (rule_fault b) rules.fields in
+      let texts = neither (rrule_fault a) (rrule_fault b) rules.texts in
+      let x = stands a h.0 spans.0 (record { fields = fields.0; texts = texts.0 }) in
+      let y = stands b h.1 spans.1 (record { fields = fields.1; texts = texts.1 }) in
+      record { tree = Joined op x.tree y.tree; is = rw (x.is, y.is) refl; well_formed = (x.well_formed, y.well_formed) }
+  stands (forms.Inverse a) h spans rules =
+      let x = stands a h spans (record { fields = rules.fields; texts = rules.texts }) in
+      record { tree = Not x.tree; is = rw x.is refl; well_formed = x.well_formed }
+
+  with_second : (t : Form) (o : Option Form) → Stands t → IsSecond (IsMade IsDated) o → IsSecond HasSpans o
+      → second_rule_fault o ≡ None → second_rrule_fault o ≡ None → AllStand (record { first = t; second = o })
+  with_second t None x h spans fields texts = record { trees = record { first = x.tree; second = None }; are = rw x.is refl; well_formed = (x.well_formed, tt) }
+  with_second t (Some u) x h spans fields texts =
+      let y = stands u h spans (record { fields = fields; texts = texts }) in
+      record { trees = record { first = x.tree; second = Some y.tree }; are = rw (x.is, y.is) refl; well_formed = (x.well_formed, y.well_formed) }
+
+  pub all_stand : (p : Forms) → AreBoth (IsMade IsDated) p → AreBoth HasSpans p → first_rule_fault p ≡ None → first_rrule_fault p ≡ None → AllStand p
+  all_stand p h spans ruled written =
+      let fields = neither (rule_fault p.first) (second_rule_fault p.second) ruled in
+      let texts = neither (rrule_fault p.first) (second_rrule_fault p.second) written in
+      with_second p.first p.second (stands p.first h.0 spans.0 (record { fields = fields.0; texts = texts.0 })) h.1 spans.1 fields.1 texts.1

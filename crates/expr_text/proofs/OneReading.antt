@@ -15,14 +15,16 @@ use Rattle.expr_grammar.specs.Spans.{all_names, names, second_in, spans_in}
 use Rattle.span_core.specs.Laws.{HighBoundsEnd, LowBoundsBegin}
 use Rattle.expr_tree.specs.Tree.{Trees}
 use Rattle.rule_core.specs.declared.part.RuleFault.{RuleFault}
+use Rattle.rrule_text.specs.Fault.{Fault as RruleFault}
+use Rattle.rrule_text.specs.Laws.{RulesAreWritable}
 use Rattle.expr_tree.specs.declared.sorting.SortFault.{SortFault}
 use Rattle.expr_text.specs.Fault.{Fault}
 use Rattle.expr_text.specs.Fault as faults
-use Rattle.expr_text.specs.Accepted.{HasPositions, IsRead, IsSorted, IsSpelled, Spelling, held, or_nameless, or_rule_fault, sorted, spelled, tokens_in, unless_long, unless_nameless, unless_rule_fault, unless_unbuilt, unsorted, unspelled, vacant, with_places}
+use Rattle.expr_text.specs.Accepted.{HasPositions, IsRead, IsSorted, IsSpelled, Spelling, held, or_nameless, or_rrule_fault, or_rule_fault, sorted, spelled, tokens_in, unless_long, unless_nameless, unless_rrule_fault, unless_rule_fault, unless_unbuilt, unsorted, unspelled, vacant, with_places}
 use Rattle.expr_tree.specs.WellFormed.{AreWellFormed}
 use Rattle.expr_text.specs.Calls.{calls_unbuilt}
 use Rattle.phases.specs.Phases.{By, IsPhase, fails}
-use Rattle.expr_text.specs.Faults.{Tokens, all_spans_of, first_nameless, first_rule_fault, is_span_name, kinds_of, second_spans, sort_fault, span_places, spans_of}
+use Rattle.expr_text.specs.Faults.{Tokens, all_spans_of, first_nameless, first_rrule_fault, first_rule_fault, is_span_name, kinds_of, second_spans, sort_fault, span_places, spans_of}
 use Rattle.expr_text.specs.Laws.{ReadingsAreUnique, ReadingsExist}
 use Rattle.expr_text.specs.Phases.{AreBoth, HasSpans, IsInRange}
 use Rattle.expr_text.specs.Trees.{trees_from}
@@ -52,11 +54,18 @@ record IsHeld (p : Forms) : Type 0 where
   made : AreBoth (IsMade IsDated) p
   spans : AreBoth HasSpans p
 
--- each rule is one
+-- each rule by fields is one
 record IsRuled (p : Forms) : Type 0 where
   made : AreBoth (IsMade IsDated) p
   spans : AreBoth HasSpans p
   ruled : first_rule_fault p ≡ None
+
+-- and so is each text of a rule
+record IsWhole (p : Forms) : Type 0 where
+  made : AreBoth (IsMade IsDated) p
+  spans : AreBoth HasSpans p
+  ruled : first_rule_fault p ≡ None
+  written : first_rrule_fault p ≡ None
 
 -- accepted trees
 pub record IsAccepted (trees : Trees) : Type 0 where
@@ -101,6 +110,7 @@ spans_counted forms.Empty = refl
 spans_counted (forms.Listed ms) = refl
 spans_counted (forms.Span low high) = refl
 spans_counted (forms.Rule freq fields) = refl
+spans_counted (forms.Rrule text start) = refl
 spans_counted (forms.Joined op a b) = omega (arith, length-append (spans_of a) (spans_of b), spans_counted a, spans_counted b)
 spans_counted (forms.Inverse a) = spans_counted a
 
@@ -109,7 +119,7 @@ second_counted None = refl
 second_counted (Some t) = spans_counted t
 
 module _ (one_program : SpellOne) (decided : SpellOrNot) (kept : MomentsAreKept) (named_spans : SpansAreNamed)
-    (begins : LowBoundsBegin) (stops : HighBoundsEnd) where
+    (begins : LowBoundsBegin) (stops : HighBoundsEnd) (writable : RulesAreWritable) where
   spelled_phase : IsPhase AreInRange IsSpelled IsSpelling
   spelled_phase = record { some = λ ts h. by_reading ts (decided (kinds_of ts)); one = one; gives = gives }
     where
@@ -166,15 +176,23 @@ module _ (one_program : SpellOne) (decided : SpellOrNot) (kept : MomentsAreKept)
       by_first p q None none h e =
           subst IsRuled (let same : p ≡ q = cc in same) (record { made = h.made; spans = h.spans; ruled = none })
 
-  sorted_phase : IsPhase IsRuled IsSorted IsAccepted
+  written_phase : IsPhase IsRuled (By unless_rrule_fault) IsWhole
+  written_phase = by_phase IsRuled IsWhole unless_rrule_fault (λ p q h e. by_first p q (first_rrule_fault p) refl h e)
+    where
+      by_first : (p q : Forms) (o : Option RruleFault) → first_rrule_fault p ≡ o → IsRuled p → or_rrule_fault p o ≡ Ok q → IsWhole q
+      by_first p q (Some fault) none h e = absurd cc
+      by_first p q None none h e =
+          subst IsWhole (let same : p ≡ q = cc in same) (record { made = h.made; spans = h.spans; ruled = h.ruled; written = none })
+
+  sorted_phase : IsPhase IsWhole IsSorted IsAccepted
   sorted_phase = record { some = some; one = one; gives = gives }
     where
       by_fault : (p : Forms) (trees : Trees) → trees_from p ≡ Some trees → (o : Option SortFault) → sort_fault trees ≡ o → (r : Result Trees Fault) × IsSorted p r
       by_fault p trees is None e = (Ok trees, sorted trees is e)
       by_fault p trees is (Some fault) e = (Err (faults.Sort fault), unsorted trees fault is e)
 
-      some : (p : Forms) → IsRuled p → (r : Result Trees Fault) × IsSorted p r
-      some p h = let x = all_stand p h.made h.spans h.ruled in by_fault p x.trees x.are (sort_fault x.trees) refl
+      some : (p : Forms) → IsWhole p → (r : Result Trees Fault) × IsSorted p r
+      some p h = let x = all_stand writable p h.made h.spans h.ruled h.written in by_fault p x.trees x.are (sort_fault x.trees) refl
 
       one : (p : Forms) (r s : Result Trees Fault) → IsSorted p r → IsSorted p s → r ≡ s
       one p r s (sorted x is e) (sorted y also d) = let same : x ≡ y = cc in ap (λ (t : Trees). Ok t) same
@@ -182,9 +200,9 @@ module _ (one_program : SpellOne) (decided : SpellOrNot) (kept : MomentsAreKept)
       one p r s (unsorted x fault is e) (sorted y also d) = let same : x ≡ y = cc in absurd cc
       one p r s (unsorted x fault is e) (unsorted y other also d) = let same : x ≡ y = cc in let faults_same : fault ≡ other = cc in ap (λ (f : SortFault). Err (faults.Sort f)) faults_same
 
-      gives : (p : Forms) (trees : Trees) → IsRuled p → IsSorted p (Ok trees) → IsAccepted trees
+      gives : (p : Forms) (trees : Trees) → IsWhole p → IsSorted p (Ok trees) → IsAccepted trees
       gives p trees h (sorted _ is e) =
-          let x = all_stand p h.made h.spans h.ruled in
+          let x = all_stand writable p h.made h.spans h.ruled h.written in
           record { well_formed = subst AreWellFormed (let are = x.are in let same : x.trees ≡ trees = cc in same) x.well_formed; sorted = e }
 
   all_phases : IsPhase AnyText IsRead IsAccepted
@@ -195,7 +213,8 @@ module _ (one_program : SpellOne) (decided : SpellOrNot) (kept : MomentsAreKept)
       (then_phase IsSpelled _ AreInRange IsSpelling IsAccepted spelled_phase
       (then_phase (By unless_nameless) _ IsSpelling IsNamed IsAccepted named_phase
       (then_phase HasPositions _ IsNamed IsHeld IsAccepted held_phase
-      (then_phase (By unless_rule_fault) IsSorted IsHeld IsRuled IsAccepted ruled_phase sorted_phase))))))
+      (then_phase (By unless_rule_fault) _ IsHeld IsRuled IsAccepted ruled_phase
+      (then_phase (By unless_rrule_fault) IsSorted IsRuled IsWhole IsAccepted written_phase sorted_phase)))))))
 
   pub readings_exist : ReadingsExist
   readings_exist text = all_phases.some text tt

@@ -1,7 +1,9 @@
 -- The printed form is read back as its trees.
 use Rattle.std.proofs.Common.{◌≡◌, ℕ, ℤ, ◌≤◌, Bool, true, false, ◌&&◌, cond, List, [], ◌∷◌, ◌++◌, length, Option, Some, None, Ok, refl, sym, ap, subst, ◌∙◌, append_assoc, arith}
 use Rattle.std.specs.Prelude.{codes, option_map}
-use Rattle.std.specs.List.{AllByRecursion, flat_map}
+use Rattle.std.specs.List.{AllByRecursion, flat_map, list_all}
+use Rattle.std.proofs.lemmas.Bool.{and_from, and_parts}
+use Rattle.std.proofs.lemmas.Bool.Decides.{nat_tests}
 use Rattle.std.proofs.lemmas.List.Concat.{flat_map-cons}
 use Rattle.std.proofs.lemmas.List.Elements.{recursion_from_All}
 use Rattle.moment_core.specs.Line.{IsCalendarMoment}
@@ -20,18 +22,26 @@ use Rattle.expr_tokens.specs.Plain.{Token}
 use Rattle.expr_tokens.specs.Plain as tokens
 use Rattle.expr_tokens.specs.Names.{name_of}
 use Rattle.expr_tokens.specs.Laws.{Lexes}
+use Rattle.expr_tokens.specs.Class.{holds}
+use Rattle.expr_tokens.specs.Reading.{string_limit}
+use Rattle.expr_tokens.specs.declared.class.Class.TheVariants as classes
 use Rattle.expr_text.proofs.Signs.{Writing, Lexes-close, Lexes-comma, Lexes-exclamation, Lexes-left_brace, Lexes-meet, Lexes-minus, Lexes-open, Lexes-right_brace, Lexes-semicolon, Lexes-union}
 use Rattle.expr_grammar.specs.declared.syntax.SpanBound.{SpanBound}
 use Rattle.std.specs.Option.{option_to_list}
 use Rattle.rule_core.specs.Laws.{FieldIntervalFits, FieldValuesFit}
 use Rattle.rule_core.specs.declared.field.FieldRule.{FieldRule}
+use Rattle.rule_core.specs.declared.ical.IcalRule.{IcalRule}
+use Rattle.rrule_text.specs.Laws.{WrittenIsPlain, WrittenIsRead, is_plain}
+use Rattle.rrule_text.specs.Writing.{text_of}
 use Rattle.rule_core.specs.declared.part.Freq.{Freq}
 use Rattle.rule_core.specs.declared.part.Freq.TheVariants as freqs
 use Rattle.expr_grammar.specs.declared.syntax.Key.{Key}
 use Rattle.expr_grammar.specs.declared.syntax.Key.TheVariants as keys
 use Rattle.expr_grammar.specs.Fields.{field_tokens, fields_tokens, freq_word, key_word, more_numbers, rule_tokens}
 use Rattle.expr_grammar.specs.Form.{FieldForm, Values, Start}
-use Rattle.expr_tree.specs.WellFormed.{AreWellFormed}
+use Rattle.expr_tree.specs.WellFormed.{AreWellFormed, IsWellFormed}
+use Rattle.expr_grammar.specs.Grammar.{rrule_tokens}
+use Rattle.expr_text.specs.Rrules.{fault_of}
 use Rattle.expr_print.specs.Fields.{interval_printed}
 use Rattle.expr_text.proofs.RulesBack.{rule_back, with_numbers, with_start, written_fields}
 use Rattle.expr_text.proofs.RuleText.{rule_lexes}
@@ -43,11 +53,11 @@ use Rattle.expr_text.specs.Accepted.{AreRead, IsRead, held, sorted, spelled as s
 use Rattle.expr_text.specs.declared.fault.TheConstants.{LONGEST}
 use Rattle.phases.specs.Phases.{goes_on}
 use Rattle.expr_text.specs.Calls.{calls_unbuilt, names_unbuilt}
-use Rattle.expr_text.specs.Faults.{HasPosition, Tokens, first_nameless, first_rule_fault, is_nameless, kinds_of, rule_fault, second_rule_fault, second_spans, sort_fault, spans_of}
-use Rattle.expr_print.specs.Printing.{bracketed, comma_text, high_text, is_at_moment, is_join, low_text, moment_text, next_stamp, print, print_program, print_second, sign_text, stamp_text}
+use Rattle.expr_text.specs.Faults.{HasPosition, Tokens, first_nameless, first_rrule_fault, first_rule_fault, is_nameless, kinds_of, rrule_fault, rule_fault, second_rrule_fault, second_rule_fault, second_spans, sort_fault, spans_of}
+use Rattle.expr_print.specs.Printing.{bracketed, comma_text, high_text, is_at_moment, is_join, low_text, moment_text, next_stamp, print, print_program, print_second, rrule_text, sign_text, stamp_text}
 use Rattle.expr_text.specs.Trees.{bound_of}
 use Rattle.expr_text.proofs.Places.{short_text, stand_in}
-use Rattle.expr_text.specs.Laws.{HasNoRrule, HasNoSecondRrule}
+use Rattle.expr_text.specs.Laws.{HasShortSecond, HasShortStrings}
 use Rattle.expr_text.proofs.Written.{AreShown, IsShown, IsShownSecond, all_printable, all_shown, all_written, bound_back, joined_same, literals_of, stamp_at, trees_back, written, written_bound}
 
 along : (a b : List ℕ) (ts : List Token) (rest : List ℕ) → a ≡ b → Lexes b ts rest → Lexes a ts rest
@@ -192,7 +202,7 @@ no_fault Empty h = refl
 no_fault (Ruled (Listed stamps)) h = refl
 no_fault (Spanned bounds low high) h = refl
 no_fault (Ruled (Field rule)) h = rw (rule_back rule, h.0) refl
-no_fault (Ruled (Ical rule)) h = absurd h
+no_fault (Ruled (Ical rule)) h = refl
 no_fault (Joined op a b) h = rw (no_fault a h.0, no_fault b h.1) refl
 no_fault (Not a) h = no_fault a h
 
@@ -211,7 +221,7 @@ plain_spelled (Ruled (Listed (s ∷ ss))) h = ((refl, refl), ((refl, refl), plai
 plain_spelled (Spanned bounds low high) h =
     ((refl, refl), ((refl, refl), all_both IsPlain (bounds_tokens (written_bound bounds.0 low) (written_bound bounds.1 high)) (tokens.Close ∷ []) (plain_bounds bounds.0 bounds.1 low high) ((refl, refl), tt)))
 plain_spelled (Ruled (Field rule)) h = plain_rule rule.freq (written_fields rule) (named_fields rule)
-plain_spelled (Ruled (Ical rule)) h = absurd h
+plain_spelled (Ruled (Ical rule)) h = ((refl, refl), ((refl, refl), ((refl, refl), ((refl, refl), ((refl, refl), ((refl, refl), tt))))))
 plain_spelled (Joined op a b) h = plain_joined op (is_joined (written a)) (is_joined (written b)) (spelled (written a)) (spelled (written b)) (plain_spelled a h.0) (plain_spelled b h.1)
 plain_spelled (Not a) h = ((refl, refl), plain_brackets (is_joined (written a)) (spelled (written a)) (plain_spelled a h))
 
@@ -235,7 +245,7 @@ spans_held (Spanned bounds low high) h =
     let position : HasPosition (bound_of (written_bound bounds.0 low), bound_of (written_bound bounds.1 high)) = rw (bound_back bounds.0 low h.0.low_given, bound_back bounds.1 high h.0.high_given) h.0.some in
     (position, tt)
 spans_held (Ruled (Field rule)) h = tt
-spans_held (Ruled (Ical rule)) h = absurd h
+spans_held (Ruled (Ical rule)) h = tt
 spans_held (Joined op a b) h = all_both HasPosition (spans_of (written a)) (spans_of (written b)) (spans_held a h.0) (spans_held b h.1)
 spans_held (Not a) h = spans_held a h
 
@@ -243,7 +253,33 @@ second_held : (o : Option (Tree Rule)) → IsShownSecond o → AllByRecursion Ha
 second_held None h = tt
 second_held (Some t) h = spans_held t h
 
-module _ (program_spelled : PrintedIsSpelled) (writing : Writing) (fit : FieldValuesFit) (intervals : FieldIntervalFits) where
+-- bytes of a rule's written form may stand between quotes
+plain_quoted : (b : ℕ) → is_plain b ≡ true → holds classes.Quoted b ≡ true
+plain_quoted b h = grind (arith, nat_tests)
+
+all_quoted : (text : List ℕ) → list_all is_plain text ≡ true → list_all (holds classes.Quoted) text ≡ true
+all_quoted [] each = refl
+all_quoted (b ∷ text) each =
+    let parts = and_parts (is_plain b) (list_all is_plain text) each in
+    and_from (holds classes.Quoted b) (list_all (holds classes.Quoted) text) (plain_quoted b parts.0) (all_quoted text parts.1)
+
+no_text_fault : WrittenIsRead → (t : Tree Rule) → IsShown t → rrule_fault (written t) ≡ None
+no_text_fault back Empty h = refl
+no_text_fault back (Ruled (Listed stamps)) h = refl
+no_text_fault back (Spanned bounds low high) h = refl
+no_text_fault back (Ruled (Field rule)) h = refl
+no_text_fault back (Ruled (Ical rule)) h = ap fault_of (back rule h.0.0 h.0.1)
+no_text_fault back (Joined op a b) h = rw (no_text_fault back a h.0, no_text_fault back b h.1) refl
+no_text_fault back (Not a) h = no_text_fault back a h
+
+no_second_text_fault : WrittenIsRead → (o : Option (Tree Rule)) → IsShownSecond o → second_rrule_fault (option_map written o) ≡ None
+no_second_text_fault back None h = refl
+no_second_text_fault back (Some t) h = no_text_fault back t h
+
+no_rrule_fault : WrittenIsRead → (p : Trees) → AreShown p → first_rrule_fault (all_written p) ≡ None
+no_rrule_fault back p h = rw (no_text_fault back p.first h.0, no_second_text_fault back p.second h.1) refl
+
+module _ (program_spelled : PrintedIsSpelled) (writing : Writing) (fit : FieldValuesFit) (intervals : FieldIntervalFits) (back : WrittenIsRead) (plain : WrittenIsPlain) where
   -- three texts, one behind the other
   three : (a b c : List ℕ) (ts us vs : List Token) (rest : List ℕ) → Lexes a ts ((b ++ c) ++ rest) → Lexes b us (c ++ rest) → Lexes c vs rest → Lexes (a ++ b ++ c) (ts ++ (us ++ vs)) rest
   three a b c ts us vs rest first second third =
@@ -350,6 +386,22 @@ module _ (program_spelled : PrintedIsSpelled) (writing : Writing) (fit : FieldVa
       (spelled_as (codes "span(" ++ (L ++ (C ++ (H ++ end)))) (tokens.Word words.Span ∷ tokens.Open ∷ us) (tokens.Word words.Span ∷ tokens.Open ∷ bounds_tokens a b ++ tokens.Close ∷ []) rest
       (ap (λ (x : List Token). tokens.Word words.Span ∷ tokens.Open ∷ x) (bounds_parts a b (tokens.Close ∷ []))) whole)
 
+  rrule_lexes : (rule : IcalRule) (rest : List ℕ) → IsWellFormed (Ruled (Ical rule)) → length (text_of rule) ≤ string_limit
+      → Lexes (rrule_text rule) (rrule_tokens (text_of rule) (Some rule.start)) rest
+  rrule_lexes rule rest h short =
+      let T = text_of rule in
+      let S = stamp_text rule.start in
+      let end = codes ")" in
+      let behind = codes ", " ++ (S ++ end) in
+      let string = 34 ∷ T ++ 34 ∷ [] in
+      let e : rrule_text rule ≡ codes "rrule(" ++ (string ++ behind) =
+      ap (λ (x : List ℕ). codes "rrule(\"" ++ x) (append_assoc (T ++ codes "\", ") S end ∙ append_assoc T (codes "\", ") (S ++ end) ∙ sym (append_assoc T (34 ∷ []) behind)) in
+      along (rrule_text rule) (codes "rrule(" ++ (string ++ behind)) (rrule_tokens T (Some rule.start)) rest e
+      (writing.parts (codes "rrule(") (string ++ behind) (tokens.Word words.Rrule ∷ tokens.Open ∷ []) (tokens.Text T ∷ tokens.Comma ∷ tokens.Moment (Some rule.start) ∷ tokens.Close ∷ []) rest (word_open words.Rrule ((string ++ behind) ++ rest))
+      (writing.parts string behind (tokens.Text T ∷ []) (tokens.Comma ∷ tokens.Moment (Some rule.start) ∷ tokens.Close ∷ []) rest (writing.strings T (behind ++ rest) (all_quoted T (plain rule h.0 h.1)) short)
+      (writing.parts (codes ", ") (S ++ end) (tokens.Comma ∷ []) (tokens.Moment (Some rule.start) ∷ tokens.Close ∷ []) rest (comma ((S ++ end) ++ rest))
+      (writing.parts S end (tokens.Moment (Some rule.start) ∷ []) (tokens.Close ∷ []) rest (stamp_lexes rule.start (end ++ rest) h.2 refl) (Lexes-close writing rest)))))
+
   -- an operand in its brackets
   operand_lexes : (t : Tree Rule) (rest : List ℕ) → ((r : List ℕ) → Lexes (print t) (spelled (written t)) r) → Lexes (bracketed (is_join t) (print t)) (in_brackets (is_joined (written t)) (spelled (written t))) rest
   operand_lexes t rest h = rw (joined_same t) (brackets_lex (is_join t) (print t) (spelled (written t)) rest h)
@@ -371,7 +423,7 @@ module _ (program_spelled : PrintedIsSpelled) (writing : Writing) (fit : FieldVa
   print_lexes (Ruled (Listed (s ∷ ss))) rest h = list_lexes s ss rest (recursion_from_All (λ (x : Stamp). IsCalendarMoment x.moment.0) (s ∷ ss) h.1)
   print_lexes (Spanned bounds low high) rest h = span_lexes bounds.0 bounds.1 low high rest h.0.low_given h.0.high_given
   print_lexes (Ruled (Field rule)) rest h = rule_lexes writing fit intervals rule rest h.0 h.1
-  print_lexes (Ruled (Ical rule)) rest h = absurd h
+  print_lexes (Ruled (Ical rule)) rest h = rrule_lexes rule rest h.0 h.1
   print_lexes (Joined op a b) rest h = joined_lexes op a b rest (λ r. print_lexes a r h.0) (λ r. print_lexes b r h.1)
   print_lexes (Not a) rest h =
       writing.parts (codes "!") (bracketed (is_join a) (print a)) (tokens.Exclamation ∷ []) (in_brackets (is_joined (written a)) (spelled (written a))) rest
@@ -391,19 +443,20 @@ module _ (program_spelled : PrintedIsSpelled) (writing : Writing) (fit : FieldVa
       → AreRead ts (Ok p)
   trees_accepted p h sort ts same =
       let all : ArePlain (spelled_program (all_written p)) = all_both IsPlain (spelled (written p.first)) (spelled_second (option_map written p.second)) (plain_spelled p.first h.0) (plain_second p.second h.1) in
-      let plain : ArePlain (kinds_of ts) = subst ArePlain (sym same) all in
-      let built : calls_unbuilt (kinds_of ts) ≡ false = no_call (kinds_of ts) plain in
-      let named : first_nameless ts ≡ None = no_nameless ts plain in
+      let each : ArePlain (kinds_of ts) = subst ArePlain (sym same) all in
+      let built : calls_unbuilt (kinds_of ts) ≡ false = no_call (kinds_of ts) each in
+      let named : first_nameless ts ≡ None = no_nameless ts each in
       goes_on ts (Ok p) (rw built refl)
       (goes_on (record { tokens = ts; forms = all_written p }) (Ok p) (spelled_so (all_written p) (rw same (program_spelled (all_written p) (all_printable p h sort))))
       (goes_on (record { tokens = ts; forms = all_written p }) (Ok p) (rw named refl)
       (goes_on (all_written p) (Ok p) (held (all_both HasPosition (spans_of (written p.first)) (second_spans (option_map written p.second)) (spans_held p.first h.0) (second_held p.second h.1)))
-      (goes_on (all_written p) (Ok p) (rw (no_rule_fault p h) refl) (sorted p (trees_back p h) sort)))))
+      (goes_on (all_written p) (Ok p) (rw (no_rule_fault p h) refl)
+      (goes_on (all_written p) (Ok p) (rw (no_rrule_fault back p h) refl) (sorted p (trees_back back p h) sort))))))
 
   -- the printed form is read as the trees
-  pub printed_is_read : (p : Trees) → AreWellFormed p → HasNoRrule p.first × HasNoSecondRrule p.second → sort_fault p ≡ None → length (print_program p) ≤ LONGEST → IsRead (print_program p) (Ok p)
-  printed_is_read p formed none sort short =
-      let h = all_shown p formed none in
+  pub printed_is_read : (p : Trees) → AreWellFormed p → HasShortStrings p.first × HasShortSecond p.second → sort_fault p ≡ None → length (print_program p) ≤ LONGEST → IsRead (print_program p) (Ok p)
+  printed_is_read p formed strings sort short =
+      let h = all_shown p formed strings in
       let text = print_program p in
       let there = stand_in text (spelled_program (all_written p)) (writing.texts text (spelled_program (all_written p)) (program_lexes p h)) in
       goes_on text (Ok p) (short_text text short) (goes_on there.tokens (Ok p) there.read (trees_accepted p h sort there.tokens there.same))

@@ -1,7 +1,7 @@
 -- Signs as they are read, from the laws of written tokens.
 use Rattle.std.proofs.Common.{ℕ, List, [], ◌∷◌, refl}
 use Rattle.moment_core.specs.declared.joining.Op.TheVariants.{Union, Meet, Minus}
-use Rattle.expr_tokens.specs.Laws.{Lexes, MomentsAreRead, NothingIsRead, NumbersAreRead, PartsAreRead, SignsAreRead, SpacesAreRead, TextsAreRead, WordsAreRead}
+use Rattle.expr_tokens.specs.Laws.{Lexes, MomentsAreRead, NothingIsRead, NumbersAreRead, PartsAreRead, SignsAreRead, SpacesAreRead, StringsAreRead, TextsAreRead, WordsAreRead}
 use Rattle.expr_tokens.specs.Plain as tokens
 use Rattle.expr_tokens.specs.Reading.{sign_of}
 
@@ -12,6 +12,7 @@ pub record Writing : Type 0 where
   pub spaces : SpacesAreRead
   pub signs : SignsAreRead
   pub words : WordsAreRead
+  pub strings : StringsAreRead
   pub numbers : NumbersAreRead
   pub moments : MomentsAreRead
 

@@ -30,7 +30,7 @@ pub checked : (r : Result (Unit {0}) RuleFault) → fault_in_check r ≡ None �
 checked (Ok done) e = refl
 checked (Err fault) e = absurd cc
 
-pub neither : (a b : Option RuleFault) → option_or a b ≡ None → (a ≡ None) × (b ≡ None)
+pub neither : {F : Type 0} (a b : Option F) → option_or a b ≡ None → (a ≡ None) × (b ≡ None)
 neither None b e = (refl, e)
 neither (Some fault) b e = absurd cc
 

@@ -17,23 +17,27 @@ use Rattle.expr_tree.specs.Sorts.{depth_of, judge, nodes_of, sort_of_tree, sort_
 use Rattle.expr_tree.specs.Tree.{Rule, Listed, Field, Ical, Tree, Empty, Spanned, Ruled, Joined, Not, Trees}
 use Rattle.expr_tree.specs.WellFormed.{AreWellFormed, HasClock, IsWellFormed, IsWellFormedSecond}
 use Rattle.rule_core.specs.declared.field.FieldRule.{FieldRule}
+use Rattle.rule_core.specs.declared.ical.IcalRule.{IcalRule}
+use Rattle.rrule_text.specs.Laws.{WrittenIsRead}
+use Rattle.rrule_text.specs.Writing.{text_of}
+use Rattle.expr_text.specs.Rrules.{rrule_from, rule_in}
 use Rattle.expr_text.proofs.RulesBack.{are_fields, rule_back, written_fields}
 use Rattle.expr_tree.specs.declared.sorting.Sort.{Sort}
 use Rattle.expr_tree.specs.declared.sorting.SortFault.{SortFault}
 use Rattle.expr_tree.specs.declared.sorting.SortFault.TheVariants as faults
-use Rattle.expr_text.specs.Laws.{HasNoRrule, HasNoSecondRrule}
+use Rattle.expr_text.specs.Laws.{HasShortSecond, HasShortStrings}
 use Rattle.expr_text.specs.Faults.{fault_of, sort_fault}
 use Rattle.moment_core.specs.Clocks.{is_absolute}
 use Rattle.expr_print.specs.Printing.{is_join}
 use Rattle.expr_text.specs.Trees.{both, bound_of, clock_of, is_named, listed, stamps_of, tree_from, trees_from}
 
--- a well-formed tree without a rule of RFC 5545
+-- a well-formed tree whose strings are short
 abbrev pub IsShown : Tree Rule → Type 0
 IsShown Empty = Unit {0}
 IsShown (Spanned bounds low high) = IsWellFormed (Spanned bounds low high)
 IsShown (Ruled (Listed stamps)) = IsWellFormed (Ruled (Listed stamps))
 IsShown (Ruled (Field rule)) = IsWellFormed (Ruled (Field rule))
-IsShown (Ruled (Ical rule)) = ⊥
+IsShown (Ruled (Ical rule)) = IsWellFormed (Ruled (Ical rule)) × HasShortStrings (Ruled (Ical rule))
 IsShown (Joined op a b) = IsShown a × IsShown b
 IsShown (Not a) = IsShown a
 
@@ -44,21 +48,21 @@ IsShownSecond (Some t) = IsShown t
 abbrev pub AreShown : Trees → Type 0
 AreShown p = IsShown p.first × IsShownSecond p.second
 
-shown : (t : Tree Rule) → IsWellFormed t → HasNoRrule t → IsShown t
-shown Empty h none = tt
-shown (Spanned bounds low high) h none = h
-shown (Ruled (Listed stamps)) h none = h
-shown (Ruled (Field rule)) h none = h
-shown (Ruled (Ical rule)) h none = absurd none
-shown (Joined op a b) h none = (shown a h.0 none.0, shown b h.1 none.1)
-shown (Not a) h none = shown a h none
+shown : (t : Tree Rule) → IsWellFormed t → HasShortStrings t → IsShown t
+shown Empty h short = tt
+shown (Spanned bounds low high) h short = h
+shown (Ruled (Listed stamps)) h short = h
+shown (Ruled (Field rule)) h short = h
+shown (Ruled (Ical rule)) h short = (h, short)
+shown (Joined op a b) h short = (shown a h.0 short.0, shown b h.1 short.1)
+shown (Not a) h short = shown a h short
 
-second_shown : (o : Option (Tree Rule)) → IsWellFormedSecond o → HasNoSecondRrule o → IsShownSecond o
-second_shown None h none = tt
-second_shown (Some t) h none = shown t h none
+second_shown : (o : Option (Tree Rule)) → IsWellFormedSecond o → HasShortSecond o → IsShownSecond o
+second_shown None h short = tt
+second_shown (Some t) h short = shown t h short
 
-pub all_shown : (p : Trees) → AreWellFormed p → HasNoRrule p.first × HasNoSecondRrule p.second → AreShown p
-all_shown p h none = (shown p.first h.0 none.0, second_shown p.second h.1 none.1)
+pub all_shown : (p : Trees) → AreWellFormed p → HasShortStrings p.first × HasShortSecond p.second → AreShown p
+all_shown p h short = (shown p.first h.0 short.0, second_shown p.second h.1 short.1)
 
 abbrev pub stamp_at : Moment → Clock → Stamp
 stamp_at t clock = record { moment = t; absolute = is_absolute clock }
@@ -77,7 +81,7 @@ written Empty = forms.Empty
 written (Ruled (Listed stamps)) = forms.Listed (literals_of stamps)
 written (Spanned bounds low high) = forms.Span (written_bound bounds.0 low) (written_bound bounds.1 high)
 written (Ruled (Field rule)) = forms.Rule rule.freq (written_fields rule)
-written (Ruled (Ical rule)) = forms.Empty
+written (Ruled (Ical rule)) = forms.Rrule (text_of rule) (Some rule.start)
 written (Joined op a b) = forms.Joined op (written a) (written b)
 written (Not a) = forms.Inverse (written a)
 
@@ -115,22 +119,26 @@ span_back : (bounds : Bound × Bound) (low high : Clock) → IsGiven bounds.0 �
 span_back bounds low high first second low_clock high_clock =
     rw (named_back bounds.0 low, named_back bounds.1 high, bound_back bounds.0 low first, bound_back bounds.1 high second, clock_back bounds.0 low first low_clock, clock_back bounds.1 high second high_clock) refl
 
--- what is written of a well-formed tree stands for it
-pub tree_back : (t : Tree Rule) → IsShown t → tree_from (written t) ≡ Some t
-tree_back Empty h = refl
-tree_back (Ruled (Listed stamps)) h = ap (option_map listed) (stamps_back stamps)
-tree_back (Spanned bounds low high) h = span_back bounds low high h.0.low_given h.0.high_given h.1 h.2
-tree_back (Ruled (Field rule)) h = ap (option_map (λ (r : FieldRule). Ruled (Field r))) (rule_back rule)
-tree_back (Ruled (Ical rule)) h = absurd h
-tree_back (Joined op a b) h = rw (tree_back a h.0, tree_back b h.1) refl
-tree_back (Not a) h = rw (tree_back a h) refl
+module _ (back : WrittenIsRead) where
+  rrule_back : (rule : IcalRule) → IsWellFormed (Ruled (Ical rule)) → rrule_from (text_of rule) (Some rule.start) ≡ Some rule
+  rrule_back rule h = ap rule_in (back rule h.0 h.1)
 
-both_back : (t : Tree Rule) (o : Option (Tree Rule)) → IsShown t → IsShownSecond o → trees_from (record { first = written t; second = option_map written o }) ≡ Some (record { first = t; second = o })
-both_back t None h k = rw (tree_back t h) refl
-both_back t (Some u) h k = rw (tree_back t h, tree_back u k) refl
+  -- what is written of a well-formed tree stands for it
+  pub tree_back : (t : Tree Rule) → IsShown t → tree_from (written t) ≡ Some t
+  tree_back Empty h = refl
+  tree_back (Ruled (Listed stamps)) h = ap (option_map listed) (stamps_back stamps)
+  tree_back (Spanned bounds low high) h = span_back bounds low high h.0.low_given h.0.high_given h.1 h.2
+  tree_back (Ruled (Field rule)) h = ap (option_map (λ (r : FieldRule). Ruled (Field r))) (rule_back rule)
+  tree_back (Ruled (Ical rule)) h = ap (option_map (λ (r : IcalRule). Ruled (Ical r))) (rrule_back rule h.0)
+  tree_back (Joined op a b) h = rw (tree_back a h.0, tree_back b h.1) refl
+  tree_back (Not a) h = rw (tree_back a h) refl
 
-pub trees_back : (p : Trees) → AreShown p → trees_from (all_written p) ≡ Some p
-trees_back p h = both_back p.first p.second h.0 h.1
+  both_back : (t : Tree Rule) (o : Option (Tree Rule)) → IsShown t → IsShownSecond o → trees_from (record { first = written t; second = option_map written o }) ≡ Some (record { first = t; second = o })
+  both_back t None h k = rw (tree_back t h) refl
+  both_back t (Some u) h k = rw (tree_back t h, tree_back u k) refl
+
+  pub trees_back : (p : Trees) → AreShown p → trees_from (all_written p) ≡ Some p
+  trees_back p h = both_back p.first p.second h.0 h.1
 
 pub joined_same : (t : Tree Rule) → is_joined (written t) ≡ is_join t
 joined_same Empty = refl
@@ -158,7 +166,7 @@ has_tokens (Ruled (Listed [])) h = absurd (omega (arith, h.0))
 has_tokens (Ruled (Listed (s ∷ ss))) h = tt
 has_tokens (Spanned bounds low high) h = tt
 has_tokens (Ruled (Field rule)) h = are_fields rule
-has_tokens (Ruled (Ical rule)) h = absurd h
+has_tokens (Ruled (Ical rule)) h = tt
 has_tokens (Joined op a b) h = (has_tokens a h.0, has_tokens b h.1)
 has_tokens (Not a) h = has_tokens a h
 

@@ -7,6 +7,7 @@ use Rattle.expr_grammar.specs.Form.{Forms}
 use Rattle.expr_grammar.specs.Grammar.{Spells}
 use Rattle.expr_tree.specs.Tree.{Trees}
 use Rattle.rule_core.specs.declared.part.RuleFault.{RuleFault}
+use Rattle.rrule_text.specs.Fault.{Fault as RruleFault}
 use Rattle.expr_tree.specs.declared.sorting.SortFault.{SortFault}
 use Rattle.expr_text.specs.Fault.{Fault}
 use Rattle.expr_text.specs.Fault as faults
@@ -14,7 +15,7 @@ use Rattle.expr_text.specs.declared.fault.TheConstants.{LONGEST}
 use Rattle.expr_text.specs.Calls.{calls_unbuilt}
 use Rattle.phases.specs.Phases.{By, Then}
 use Rattle.expr_text.specs.Trees.{trees_from}
-use Rattle.expr_text.specs.Faults.{Tokens, kinds_of, all_spans_of, first_nameless, span_places, HasPosition, FirstVacant, first_rule_fault, sort_fault}
+use Rattle.expr_text.specs.Faults.{Tokens, kinds_of, all_spans_of, first_nameless, span_places, HasPosition, FirstVacant, first_rule_fault, first_rrule_fault, sort_fault}
 
 -- the text, where it isn't too long
 abbrev pub unless_long : List ℕ → Result (List ℕ) Fault
@@ -59,13 +60,21 @@ pub data HasPositions (s : Spelling) : Result Forms Fault → Type 0 where
   vacant : (byte : ℕ) → FirstVacant (all_spans_of s.forms) (span_places s.tokens) byte
       → HasPositions s (Err (faults.Moment byte))
 
--- the expressions, where each rule is one
+-- the expressions, where each rule by fields is one
 abbrev pub or_rule_fault : Forms → Option RuleFault → Result Forms Fault
 or_rule_fault p None = Ok p
 or_rule_fault p (Some fault) = Err (faults.Rule fault)
 
 abbrev pub unless_rule_fault : Forms → Result Forms Fault
 unless_rule_fault p = or_rule_fault p (first_rule_fault p)
+
+-- the expressions, where each text of a rule of RFC 5545 is that of one
+abbrev pub or_rrule_fault : Forms → Option RruleFault → Result Forms Fault
+or_rrule_fault p None = Ok p
+or_rrule_fault p (Some fault) = Err (faults.Rrule fault)
+
+abbrev pub unless_rrule_fault : Forms → Result Forms Fault
+unless_rrule_fault p = or_rrule_fault p (first_rrule_fault p)
 
 -- the trees, where they have a sort
 pub data IsSorted (p : Forms) : Result Trees Fault → Type 0 where
@@ -75,9 +84,13 @@ pub data IsSorted (p : Forms) : Result Trees Fault → Type 0 where
       → sort_fault trees ≡ Some fault
       → IsSorted p (Err (faults.Sort fault))
 
+-- the trees of rules without a fault
+abbrev pub AreRules : Forms → Result Trees Fault → Type 0
+AreRules = Then (By unless_rule_fault) (Then (By unless_rrule_fault) IsSorted)
+
 -- What a text is read as, or its fault: all phases in their order, each over the whole text.
 abbrev pub IsMeant : Spelling → Result Trees Fault → Type 0
-IsMeant = Then (By unless_nameless) (Then HasPositions (Then (By unless_rule_fault) IsSorted))
+IsMeant = Then (By unless_nameless) (Then HasPositions AreRules)
 
 abbrev pub AreRead : Tokens → Result Trees Fault → Type 0
 AreRead = Then (By unless_unbuilt) (Then IsSpelled IsMeant)

@@ -15,8 +15,10 @@ use Rattle.expr_tree.specs.declared.sorting.Sort.{Sort}
 use Rattle.expr_tree.specs.declared.sorting.SortFault.{SortFault}
 use Rattle.expr_tree.specs.declared.sorting.SortFault.TheVariants as faults
 use Rattle.rule_core.specs.declared.part.RuleFault.{RuleFault}
+use Rattle.rrule_text.specs.Fault.{Fault as RruleFault}
 use Rattle.std.specs.Option.{option_or}
 use Rattle.expr_text.specs.Rules.{fault_where_rule, rule_from}
+use Rattle.expr_text.specs.Rrules.{fault_of_text}
 use Rattle.expr_text.specs.Trees.{bound_of}
 
 -- tokens, each with the byte at which it begins
@@ -50,6 +52,7 @@ spans_of forms.Empty = []
 spans_of (forms.Listed literals) = []
 spans_of (forms.Span low high) = (bound_of low, bound_of high) ∷ []
 spans_of (forms.Rule freq fields) = []
+spans_of (forms.Rrule text start) = []
 spans_of (forms.Joined op a b) = spans_of a ++ spans_of b
 spans_of (forms.Inverse a) = spans_of a
 
@@ -74,12 +77,13 @@ pub data FirstVacant : List (Bound × Bound) → List ℕ → ℕ → Type 0 whe
       → HasPosition s
       → FirstVacant ss places byte → FirstVacant (s ∷ ss) (place ∷ places) byte
 
--- the fault of the first rule that has one
+-- the fault of the first rule by fields that has one
 abbrev pub rule_fault : Form → Option RuleFault
 rule_fault forms.Empty = None
 rule_fault (forms.Listed literals) = None
 rule_fault (forms.Span low high) = None
 rule_fault (forms.Rule freq fields) = fault_where_rule (rule_from freq fields)
+rule_fault (forms.Rrule text start) = None
 rule_fault (forms.Joined op a b) = option_or (rule_fault a) (rule_fault b)
 rule_fault (forms.Inverse a) = rule_fault a
 
@@ -89,6 +93,23 @@ second_rule_fault (Some t) = rule_fault t
 
 abbrev pub first_rule_fault : Forms → Option RuleFault
 first_rule_fault p = option_or (rule_fault p.first) (second_rule_fault p.second)
+
+-- the fault of the first text of a rule of RFC 5545 that has one
+abbrev pub rrule_fault : Form → Option RruleFault
+rrule_fault forms.Empty = None
+rrule_fault (forms.Listed literals) = None
+rrule_fault (forms.Span low high) = None
+rrule_fault (forms.Rule freq fields) = None
+rrule_fault (forms.Rrule text start) = fault_of_text text start
+rrule_fault (forms.Joined op a b) = option_or (rrule_fault a) (rrule_fault b)
+rrule_fault (forms.Inverse a) = rrule_fault a
+
+abbrev pub second_rrule_fault : Option Form → Option RruleFault
+second_rrule_fault None = None
+second_rrule_fault (Some t) = rrule_fault t
+
+abbrev pub first_rrule_fault : Forms → Option RruleFault
+first_rrule_fault p = option_or (rrule_fault p.first) (second_rrule_fault p.second)
 
 -- two clocks that are decided and differ
 abbrev pub clocks_fault : Option Clock → Option SortFault

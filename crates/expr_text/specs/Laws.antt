@@ -8,6 +8,8 @@ use Rattle.expr_text.specs.Fault.{Fault}
 use Rattle.expr_text.specs.Fault as faults
 use Rattle.expr_text.specs.Faults.{sort_fault}
 use Rattle.expr_print.specs.Printing.{print_program}
+use Rattle.expr_tokens.specs.Reading.{string_limit}
+use Rattle.rrule_text.specs.Writing.{text_of}
 
 -- each text is read as trees, or has a fault
 abbrev pub ReadingsExist : Type 0
@@ -27,24 +29,24 @@ AcceptedHaveSorts = (text : List ℕ) (p : Trees) → IsRead text (Ok p) → sor
 abbrev pub LongTextsAreRefused : Type 0
 LongTextsAreRefused = (text : List ℕ) → LONGEST < length text → IsRead text (Err faults.Long)
 
--- no rule of RFC 5545 stands in the tree, as none is read from a text yet
-abbrev pub HasNoRrule : Tree Rule → Type 0
-HasNoRrule Empty = Unit {0}
-HasNoRrule (Spanned bounds low high) = Unit {0}
-HasNoRrule (Ruled (Listed stamps)) = Unit {0}
-HasNoRrule (Ruled (Field rule)) = Unit {0}
-HasNoRrule (Ruled (Ical rule)) = ⊥
-HasNoRrule (Joined op a b) = HasNoRrule a × HasNoRrule b
-HasNoRrule (Not a) = HasNoRrule a
+-- the written forms of rules of RFC 5545 fit between quotes
+abbrev pub HasShortStrings : Tree Rule → Type 0
+HasShortStrings Empty = Unit {0}
+HasShortStrings (Spanned bounds low high) = Unit {0}
+HasShortStrings (Ruled (Listed stamps)) = Unit {0}
+HasShortStrings (Ruled (Field rule)) = Unit {0}
+HasShortStrings (Ruled (Ical rule)) = length (text_of rule) ≤ string_limit
+HasShortStrings (Joined op a b) = HasShortStrings a × HasShortStrings b
+HasShortStrings (Not a) = HasShortStrings a
 
-abbrev pub HasNoSecondRrule : Option (Tree Rule) → Type 0
-HasNoSecondRrule None = Unit {0}
-HasNoSecondRrule (Some t) = HasNoRrule t
+abbrev pub HasShortSecond : Option (Tree Rule) → Type 0
+HasShortSecond None = Unit {0}
+HasShortSecond (Some t) = HasShortStrings t
 
--- the printed form of well-formed trees without such a rule, which have a sort, is read as those
--- trees, where it isn't too long
+-- the printed form of well-formed trees that have a sort is read as those trees, where neither it
+-- nor a string in it is too long
 abbrev pub PrintedFormsAreRead : Type 0
 PrintedFormsAreRead =
-    (p : Trees) → AreWellFormed p → HasNoRrule p.first × HasNoSecondRrule p.second
+    (p : Trees) → AreWellFormed p → HasShortStrings p.first × HasShortSecond p.second
     → sort_fault p ≡ None → length (print_program p) ≤ LONGEST
     → IsRead (print_program p) (Ok p)

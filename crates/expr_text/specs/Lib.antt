@@ -1,5 +1,6 @@
 pub mod Calls
 pub mod Rules
+pub mod Rrules
 pub mod Trees
 pub mod Fault
 pub mod Faults

@@ -57,6 +57,7 @@ HasSpans forms.Empty = Unit {0}
 HasSpans (forms.Listed literals) = Unit {0}
 HasSpans (forms.Span low high) = IsSpan (bound_of low) (bound_of high)
 HasSpans (forms.Rule freq fields) = Unit {0}
+HasSpans (forms.Rrule text start) = Unit {0}
 HasSpans (forms.Joined op a b) = HasSpans a × HasSpans b
 HasSpans (forms.Inverse a) = HasSpans a
 

@@ -10,7 +10,8 @@ use Rattle.expr_grammar.specs.declared.syntax.SpanBound.{SpanBound}
 use Rattle.expr_grammar.specs.Form.{Form, Forms}
 use Rattle.expr_grammar.specs.Form as forms
 use Rattle.expr_text.specs.Rules.{rule_from}
-use Rattle.expr_tree.specs.Tree.{Rule, Listed, Field, Tree, Empty, Spanned, Ruled, Joined, Not, Trees}
+use Rattle.expr_text.specs.Rrules.{rrule_from}
+use Rattle.expr_tree.specs.Tree.{Rule, Listed, Field, Ical, Tree, Empty, Spanned, Ruled, Joined, Not, Trees}
 
 -- two values, where there are both
 abbrev pub both : {A B C : Type 0} → (A → B → C) → Option A → Option B → Option C
@@ -54,7 +55,7 @@ is_named (Some b) = is_some b.stamp
 abbrev pub listed : List Stamp → Tree Rule
 listed stamps = Ruled (Listed stamps)
 
--- the tree, where each literal names a moment
+-- the tree, where each literal names a moment and each text of a rule has no fault
 abbrev pub tree_from : Form → Option (Tree Rule)
 tree_from forms.Empty = Some Empty
 tree_from (forms.Listed literals) = option_map listed (stamps_of literals)
@@ -63,6 +64,7 @@ tree_from (forms.Span low high) =
     then Some (Spanned (bound_of low, bound_of high) (clock_of low) (clock_of high))
     else None
 tree_from (forms.Rule freq fields) = option_map (λ rule. Ruled (Field rule)) (rule_from freq fields)
+tree_from (forms.Rrule text start) = option_map (λ rule. Ruled (Ical rule)) (rrule_from text start)
 tree_from (forms.Joined op a b) = both (Joined op) (tree_from a) (tree_from b)
 tree_from (forms.Inverse a) = option_map Not (tree_from a)
 

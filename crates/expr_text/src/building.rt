@@ -1,9 +1,10 @@
-ghost use Rattle.std.specs.Prelude.{◌≡◌, ◌∷◌, [], map, IfOk, Option, Some};
+ghost use Rattle.std.specs.Prelude.{◌≡◌, ◌∷◌, [], map, IfErr, IfOk, Option, Some};
 ghost use Rattle.std.specs.List.{filter_map};
-ghost use Rattle.expr_grammar.specs.Form.{Form, Inverse, Joined as JoinedForm, Rule as RuleForm, Span as SpanForm};
+ghost use Rattle.expr_grammar.specs.Form.{Form, Inverse, Joined as JoinedForm, Rrule as RruleForm, Rule as RuleForm, Span as SpanForm};
 ghost use Rattle.expr_grammar.specs.Made.{IsDated, IsMade};
 ghost use Rattle.expr_grammar.specs.Syntax.{all_places_of, field_form, form_of, forms_of, places_of};
-ghost use Rattle.expr_text.specs.Making.{Begins, IsMadeOf, Makes, MakesAll};
+ghost use Rattle.expr_text.specs.Making.{AreBothMade, Begins, IsMadeOf, Makes, MakesAll};
+ghost use Rattle.expr_text.specs.Fault.{HasNoInnerMemory};
 ghost use Rattle.expr_text.specs.Phases.{AreBoth};
 ghost use Rattle.expr_text.specs.Trees.{bound_of, clock_of};
 ghost use Rattle.expr_tree.specs.Tree.{Joined as JoinedTree, tree_of};
@@ -14,12 +15,22 @@ use crate::rules::rule;
 use expr_grammar::{Field, SpanBound, SyntaxTree, SyntaxTrees};
 use expr_tree::{Expr, Program, Stamps};
 use moment_core::{Clock, Op, Stamp};
+use rrule_text::{RruleFault, read_rrule};
 use rule_core::{Freq, RuleFault};
 use span_core::{Bound, Empty, Span};
 use std::alloc::{AllocError, Global};
 
-/// The set of an expression, or the fault of its first rule that has one.
-type Made = Result<Expr, RuleFault>;
+/// Why an expression has no set.
+#[derive(Clone, Copy)]
+pub(crate) enum Unmade {
+    /// The fault of its first rule by fields that has one.
+    Rule(RuleFault),
+    /// Where no rule by fields has one, the fault of its first text of a rule of RFC 5545.
+    Rrule(RruleFault),
+}
+
+/// The set of an expression, or why it has none.
+type Made = Result<Expr, Unmade>;
 
 /// A step from an expression to its leftmost part.
 #[derive(Drop)]
@@ -80,7 +91,8 @@ fn stamps(alloc: Global, literals: &[Option<Stamp>]) -> Result<Vec<Stamp>, Alloc
 /// The span between the bounds, or the place of its name where no position lies there.
 fn span(place: usize, low: Option<SpanBound>, high: Option<SpanBound>) -> Result<Made, TextFault>
     requires { IsMade IsDated (SpanForm low high) }
-    ensures { Makes (SpanForm low high) (place ∷ []) result }
+    ensures made { Makes (SpanForm low high) (place ∷ []) result }
+    ensures memory { IfErr result HasNoInnerMemory }
 {
     match Span::new(bound(low), bound(high)) {
         Ok(span) => Ok(Ok(Expr::Span(span, clock(low), clock(high)))),
@@ -96,7 +108,38 @@ fn field(alloc: Global, freq: Freq, fields: &[Field]) -> Result<Made, AllocError
     let rule = rule(alloc, freq, fields)?;
     match rule.check() {
         Ok(()) => Ok(Ok(Expr::Field(rule))),
-        Err(fault) => Ok(Err(fault)),
+        Err(fault) => Ok(Err(Unmade::Rule(fault))),
+    }
+}
+
+/// The moments of the rule of RFC 5545 that the text writes.
+fn recurrence(alloc: Global, text: &[u8], start: Option<Stamp>) -> Result<Made, TextFault>
+    requires { IsMade IsDated (RruleForm text.now start) }
+    ensures made { Makes (RruleForm text.now start) [] result }
+    ensures memory { IfErr result HasNoInnerMemory }
+{
+    match read_rrule(alloc, text, start.unwrap()) {
+        Ok(rule) => Ok(Ok(Expr::Rrule(rule))),
+        Err(RruleFault::Memory) => Err(TextFault::Memory),
+        Err(fault) => Ok(Err(Unmade::Rrule(fault))),
+    }
+}
+
+/// The sets of two expressions, or the fault that decides: one of a rule by fields before one of a
+/// rule's text, and the first of either kind.
+fn both(a: Made, b: Made) -> Result<(Expr, Expr), Unmade>
+    ensures { (t u : Form) → IsMadeOf t a → IsMadeOf u b → AreBothMade t u result }
+{
+    match a {
+        Err(Unmade::Rule(fault)) => Err(Unmade::Rule(fault)),
+        Err(Unmade::Rrule(first)) => match b {
+            Err(Unmade::Rule(fault)) => Err(Unmade::Rule(fault)),
+            _ => Err(Unmade::Rrule(first)),
+        },
+        Ok(a) => match b {
+            Err(fault) => Err(fault),
+            Ok(b) => Ok((a, b)),
+        },
     }
 }
 
@@ -117,12 +160,9 @@ fn joined(alloc: Global, op: Op, a: Made, b: Made) -> Result<Made, AllocError>
     ensures { IfOk result (λ made.
         (t u : Form) → IsMadeOf t a → IsMadeOf u b → IsMadeOf (JoinedForm op t u) made) }
 {
-    match a {
+    match both(a, b) {
         Err(fault) => Ok(Err(fault)),
-        Ok(a) => match b {
-            Err(fault) => Ok(Err(fault)),
-            Ok(b) => Ok(Ok(join(alloc, op, a, b)?)),
-        },
+        Ok((a, b)) => Ok(Ok(join(alloc, op, a, b)?)),
     }
 }
 
@@ -139,7 +179,8 @@ fn inverse(alloc: Global, a: Made) -> Result<Made, AllocError>
 /// The set of the leftmost part of an expression, and the steps to it.
 fn leftmost<'t>(alloc: Global, tree: &'t SyntaxTree) -> Result<(Made, Vec<Step<'t>>), TextFault>
     requires { IsMade IsDated (form_of tree.now) }
-    ensures { Begins (form_of tree.now) (places_of tree.now) result }
+    ensures made { Begins (form_of tree.now) (places_of tree.now) result }
+    ensures memory { IfErr result HasNoInnerMemory }
 {
     let mut steps = Vec::new(alloc);
     let mut left = tree;
@@ -153,6 +194,9 @@ fn leftmost<'t>(alloc: Global, tree: &'t SyntaxTree) -> Result<(Made, Vec<Step<'
                 return Ok((span(*place, *low, *high)?, steps));
             }
             SyntaxTree::Rule { freq, fields } => return Ok((field(alloc, *freq, fields)?, steps)),
+            SyntaxTree::Rrule { text, start } => {
+                return Ok((recurrence(alloc, text, *start)?, steps));
+            }
             SyntaxTree::Joined(op, a, b) => {
                 steps.push(Step::Before(*op, b))?;
                 left = a;
@@ -170,7 +214,8 @@ fn leftmost<'t>(alloc: Global, tree: &'t SyntaxTree) -> Result<(Made, Vec<Step<'
 /// A chain of operators is long on its left side, which a loop goes down and up again.
 fn make(alloc: Global, tree: &SyntaxTree) -> Result<Made, TextFault>
     requires { IsMade IsDated (form_of tree.now) }
-    ensures { Makes (form_of tree.now) (places_of tree.now) result }
+    ensures made { Makes (form_of tree.now) (places_of tree.now) result }
+    ensures memory { IfErr result HasNoInnerMemory }
 {
     let (mut made, mut steps) = leftmost(alloc, tree)?;
     'steps: while let Some(step) = steps.pop() {
@@ -186,10 +231,12 @@ fn make(alloc: Global, tree: &SyntaxTree) -> Result<Made, TextFault>
 }
 
 /// The sets of one or two expressions, or the first fault: the place of the first span that has no
-/// position, then the fault of the first rule that has one.
+/// position, then the fault of the first rule by fields that has one, then that of the first text
+/// of a rule that has one.
 pub fn make_all(alloc: Global, trees: &SyntaxTrees) -> Result<Program, TextFault>
     requires { AreBoth (IsMade IsDated) (forms_of trees.now) }
-    ensures { MakesAll (forms_of trees.now) (all_places_of trees.now) result }
+    ensures made { MakesAll (forms_of trees.now) (all_places_of trees.now) result }
+    ensures memory { IfErr result HasNoInnerMemory }
 {
     let first = make(alloc, &trees.first)?;
     let Some(second) = &trees.second else {
@@ -199,8 +246,9 @@ pub fn make_all(alloc: Global, trees: &SyntaxTrees) -> Result<Program, TextFault
         });
     };
     let second = make(alloc, second)?;
+    let (first, second) = both(first, second)?;
     Ok(Program {
-        first: first?,
-        second: Some(second?),
+        first,
+        second: Some(second),
     })
 }

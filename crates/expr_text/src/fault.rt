@@ -1,7 +1,10 @@
 ghost use Rattle.std.specs.Prelude.{◌≡◌};
-ghost use Rattle.expr_text.specs.declared.fault.TextFault.TheVariants.{Memory, Rule, Sort};
+ghost use Rattle.expr_text.specs.declared.fault.TextFault.TheVariants.{Memory, Sort};
+ghost use Rattle.expr_text.specs.Making.{text_fault};
 
+use crate::building::Unmade;
 use expr_tree::SortFault;
+use rrule_text::RruleFault;
 use rule_core::RuleFault;
 use std::alloc::{AllocError, AllocFailed};
 use thiserror::Error;
@@ -29,9 +32,13 @@ pub enum TextFault {
     /// one, no position lies between the bounds of the span whose name begins at the byte.
     #[error("no moment, or no position of a span, at byte {byte}")]
     Moment { byte: usize },
-    /// The first rule of the text that is none, by its fault.
+    /// The first rule by fields that is none, by its fault.
     #[error("no rule")]
     Rule(RuleFault),
+    /// The first text of a rule of RFC 5545 that is that of none, by its fault, which is never
+    /// want of memory.
+    #[error("no rule of RFC 5545")]
+    Rrule(RruleFault),
     /// The first expression has no sort, or the second, or their clocks differ.
     #[error("no sort")]
     Sort(SortFault),
@@ -56,11 +63,14 @@ impl<T: Drop> From<AllocFailed<T>> for TextFault {
     }
 }
 
-impl From<RuleFault> for TextFault {
-    ghost from_gives = { λ fault e. e ≡ Rule fault };
+impl From<Unmade> for TextFault {
+    ghost from_gives = { λ unmade e. e ≡ text_fault unmade };
 
-    fn from(fault: RuleFault) -> TextFault {
-        TextFault::Rule(fault)
+    fn from(unmade: Unmade) -> TextFault {
+        match unmade {
+            Unmade::Rule(fault) => TextFault::Rule(fault),
+            Unmade::Rrule(fault) => TextFault::Rrule(fault),
+        }
     }
 }
 

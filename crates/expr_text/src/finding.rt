@@ -11,8 +11,7 @@ fn is_unbuilt(word: Word) -> bool
 {
     matches!(
         word,
-        Word::Rrule
-            | Word::Event
+        Word::Event
             | Word::During
             | Word::Pairs
             | Word::Starts

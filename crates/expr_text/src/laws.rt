@@ -2,13 +2,15 @@ ghost use Rattle.expr_text.specs.Laws.{AcceptedAreWellFormed, AcceptedHaveSorts,
 
 use expr_grammar::grammar_laws;
 use expr_tokens::writing_laws;
+use rrule_text::text_laws;
 use rule_core::rule_laws;
 use span_core::bound_laws;
 
 /// The laws of reading texts: a call has no effect, and a proof cites its clauses.
 ///
 /// Each text is read as trees or has a fault, and not both. What is accepted is well formed and has
-/// a sort, and its printed form is read as the same trees, where it isn't too long.
+/// a sort, and its printed form is read as the same trees, where neither it nor a string in it is
+/// too long.
 pub fn reading_laws()
     ensures exist { ReadingsExist }
     ensures unique { ReadingsAreUnique }
@@ -21,4 +23,5 @@ pub fn reading_laws()
     writing_laws();
     bound_laws();
     rule_laws();
+    text_laws();
 }

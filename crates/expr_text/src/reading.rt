@@ -1,9 +1,10 @@
-ghost use Rattle.std.specs.Prelude.{◌≡◌, IfOk};
+ghost use Rattle.std.specs.Prelude.{◌≡◌, IfErr, IfOk};
 ghost use Rattle.std.specs.List.{AllByRecursion};
 ghost use Rattle.expr_grammar.specs.Grammar.{Spells};
 ghost use Rattle.expr_grammar.specs.Syntax.{all_places_of, forms_of, span_places};
 ghost use Rattle.expr_text.specs.Accepted.{AreRead, IsMeant, IsRead, spelling};
 ghost use Rattle.expr_tree.specs.WellFormed.{AreWellFormed};
+ghost use Rattle.expr_text.specs.Fault.{HasNoInnerMemory};
 ghost use Rattle.expr_text.specs.Faults.{Tokens};
 ghost use Rattle.expr_text.specs.Phases.{AreTokens, IsInRange, Tells};
 ghost use Rattle.expr_text.specs.Sorted.{trees_of_sorted, HaveSorts};
@@ -34,6 +35,7 @@ fn dated<'t, 'a>(
     ensures answer { (found : Tokens) → AreTokens tokens.now found
         → Tells trees_of_sorted (IsMeant (spelling found (forms_of trees.now))) result }
     ensures sorts { IfOk result HaveSorts }
+    ensures memory { IfErr result HasNoInnerMemory }
 {
     grammar_laws();
     if let Some(byte) = first_nameless(tokens) {
@@ -53,6 +55,7 @@ fn spelled<'t, 'a>(
     ensures answer { (found : Tokens) → AreTokens tokens.now found
         → Tells trees_of_sorted (AreRead found) result }
     ensures sorts { IfOk result HaveSorts }
+    ensures memory { IfErr result HasNoInnerMemory }
 {
     if calls_unbuilt(tokens) {
         return Err(TextFault::Unbuilt);
@@ -68,11 +71,12 @@ fn spelled<'t, 'a>(
 /// with its sort.
 ///
 /// The faults come in the order of `TextFault`, each over the whole text, and the first decides.
-/// Want of memory can come at any place.
+/// Want of memory can come at any place, and is `TextFault::Memory` wherever it comes.
 pub fn read_sorted(alloc: Global, text: &[u8], book: &Book) -> Result<SortedProgram, TextFault>
     ensures answer { Tells trees_of_sorted (IsRead text.now) result }
     ensures well_formed { IfOk result (λ p. AreWellFormed (trees_of_sorted p)) }
     ensures sorts { IfOk result HaveSorts }
+    ensures memory { IfErr result HasNoInnerMemory }
 {
     reading_laws();
     if text.len() > LONGEST {
@@ -89,6 +93,7 @@ pub fn read_sorted(alloc: Global, text: &[u8], book: &Book) -> Result<SortedProg
 pub fn read_program(alloc: Global, text: &[u8], book: &Book) -> Result<Program, TextFault>
     ensures answer { Tells trees_of (IsRead text.now) result }
     ensures well_formed { IfOk result (λ p. AreWellFormed (trees_of p)) }
+    ensures memory { IfErr result HasNoInnerMemory }
 {
     match read_sorted(alloc, text, book) {
         Ok(program) => Ok(program.program()),

@@ -1,6 +1,7 @@
 use crate::*;
 use expr_print::write_program;
 use expr_tree::SortFault;
+use rrule_text::RruleFault;
 use rule_core::{Part, RuleFault};
 use std::alloc::{AllocError, Global};
 use std::process::Abort;
@@ -71,7 +72,12 @@ fn texts_are_refused_by_the_first_fault(rt: HostRuntime) {
         ("", TextFault::Syntax),
         ("empty() @", TextFault::Token { byte: 8 }),
         ("daily( ) @", TextFault::Token { byte: 9 }),
-        ("rrule( )", TextFault::Unbuilt),
+        ("event( )", TextFault::Unbuilt),
+        ("rrule( )", TextFault::Syntax),
+        (
+            "rrule(\"FREQ=DAILY\" 2024-01-01T00:00:00)",
+            TextFault::Syntax,
+        ),
         ("{2024-02-30T00:00:00} | zoned_first(", TextFault::Unbuilt),
         ("daily", TextFault::Syntax),
         ("months( )", TextFault::Syntax),
@@ -164,6 +170,65 @@ fn rules_are_refused_by_the_first_fault(rt: HostRuntime) {
         (
             "{2024-01-01T00:00:00} | {2024-01-01T00:00:00Z} | daily(interval=0)",
             TextFault::Rule(RuleFault::BadInterval),
+        ),
+    ];
+    for (text, fault) in ROWS {
+        is_refused(&rt, rt.alloc(), text, Some(*fault));
+    }
+}
+
+#[test]
+fn rules_of_rfc_5545_are_printed_in_their_written_form(rt: HostRuntime) {
+    const ROWS: &[(&str, &str)] = &[
+        (
+            "rrule(\"freq=daily;\",2024-01-01T00:00:00Z)",
+            "rrule(\"FREQ=DAILY\", 2024-01-01T00:00:00Z)",
+        ),
+        (
+            "!rrule(\"RRULE:WKST=MO;BYDAY=SU,MO;FREQ=WEEKLY\" , 2024-01-01T00:00:00)-daily( )",
+            "!rrule(\"FREQ=WEEKLY;BYDAY=MO,SU\", 2024-01-01T00:00:00) - daily()",
+        ),
+    ];
+    for (text, printed) in ROWS {
+        is_printed(&rt, rt.alloc(), text, printed);
+    }
+}
+
+#[test]
+fn texts_of_rules_are_refused_behind_rules_by_fields(rt: HostRuntime) {
+    const REPEATED: TextFault = TextFault::Rrule(RruleFault::Repeated(Part::Count));
+    const ROWS: &[(&str, TextFault)] = &[
+        (
+            "rrule(\"\", 2024-01-01T00:00:00)",
+            TextFault::Rrule(RruleFault::Syntax),
+        ),
+        (
+            "span() ; rrule(\"FREQ=DAILY;INTERVAL=0\", 2024-01-01T00:00:00)",
+            TextFault::Rrule(RruleFault::Rule(RuleFault::BadInterval)),
+        ),
+        (
+            "rrule(\"FREQ=DAILY;COUNT=1;COUNT=1\", 2024-01-01T00:00:00) & rrule(\"\", 2024-01-01T00:00:00)",
+            REPEATED,
+        ),
+        (
+            "!rrule(\"FREQ=DAILY;COUNT=1;COUNT=1\", 2024-01-01T00:00:00) | {2024-01-01T00:00:00} ; {2024-01-01T00:00:00Z}",
+            REPEATED,
+        ),
+        (
+            "rrule(\"\", 2024-01-01T00:00:00) - !daily(interval=0)",
+            TextFault::Rule(RuleFault::BadInterval),
+        ),
+        (
+            "rrule(\"\", 2024-01-01T00:00:00) ; daily() | daily(interval=0)",
+            TextFault::Rule(RuleFault::BadInterval),
+        ),
+        (
+            "rrule(\"\", 2024-02-30T00:00:00)",
+            TextFault::Moment { byte: 10 },
+        ),
+        (
+            "rrule(\"FREQ=DAILY\", 2024-01-01T00:00:00) | {2024-01-01T00:00:00Z}",
+            TextFault::Sort(SortFault::Clock),
         ),
     ];
     for (text, fault) in ROWS {

@@ -18,10 +18,10 @@ use Rattle.expr_tokens.specs.Class.{holds, passes_first}
 use Rattle.expr_tokens.specs.Names.{name_of, word_of}
 use Rattle.expr_tokens.specs.Reading.{Found, value_from, signed, named, with_token, token_at, reading_from, reading_of, alone, tokens_of}
 use Rattle.expr_tokens.specs.Stamps.{stamp_of}
-use Rattle.expr_tokens.specs.Laws.{before, Lexes, NothingIsRead, PartsAreRead, TextsAreRead, SpacesAreRead, SignsAreRead, WordsAreRead, NumbersAreRead, MomentsAreRead}
+use Rattle.expr_tokens.specs.Laws.{before, Lexes, NothingIsRead, PartsAreRead, TextsAreRead, SpacesAreRead, SignsAreRead, WordsAreRead, StringsAreRead, NumbersAreRead, MomentsAreRead}
 use Rattle.expr_tokens.specs.Longest.{AreDigits}
 use Rattle.expr_tokens.proofs.Lexing.{nothing_from}
-use Rattle.expr_tokens.proofs.OneToken.{Reads, sign_read, name_read, number_read, negative_read, moment_read}
+use Rattle.expr_tokens.proofs.OneToken.{Reads, sign_read, name_read, text_read, number_read, negative_read, moment_read}
 use Rattle.expr_tokens.proofs.Stamps.{stamp_of-literal}
 
 before-append : (ts us : List Token) (read : Result (List Token) ℕ) → before ts (before us read) ≡ before (ts ++ us) read
@@ -77,6 +77,9 @@ Lexes-token bytes t rest reads = record { reads = λ n enough. rw reads.splits (
 
 pub Lexes-sign : SignsAreRead
 Lexes-sign b t rest is stop = Lexes-token (b ∷ []) t rest (sign_read b t rest is stop)
+
+pub Lexes-string : StringsAreRead
+Lexes-string quoted rest each short = Lexes-token (34 ∷ quoted ++ 34 ∷ []) (tokens.Text quoted) rest (text_read quoted rest each short)
 
 -- a name, with no byte of a name behind it
 Lexes-name : (b : ℕ) (more rest : List ℕ) → holds classes.Letter b ≡ true → list_all (holds classes.Name) more ≡ true → passes_first (holds classes.Name) rest ≡ false → Lexes (b ∷ more) (named (b ∷ more) (word_of (b ∷ more)) ∷ []) rest

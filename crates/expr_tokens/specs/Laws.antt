@@ -1,6 +1,7 @@
 -- How written tokens are read back.
-use Rattle.std.specs.Prelude.{◌≡◌, ℕ, ◌≤◌, ◌<◌, ◌^◌, ◌==◌, ℤ, unsigned_abs, Bool, false, ◌&&◌, ◌||◌, List, [], ◌∷◌, ◌++◌, length, Some, Result, Ok, Err}
+use Rattle.std.specs.Prelude.{◌≡◌, ℕ, ◌≤◌, ◌<◌, ◌^◌, ◌==◌, ℤ, unsigned_abs, Bool, true, false, ◌&&◌, ◌||◌, List, [], ◌∷◌, ◌++◌, length, Some, Result, Ok, Err}
 use Rattle.std.specs.Fmt.{signed_decimal}
+use Rattle.std.specs.List.{list_all}
 use Rattle.moment_core.specs.Line.{IsCalendarMoment}
 use Rattle.moment_core.specs.declared.line.Stamp.{Stamp}
 use Rattle.moment_text.specs.Laws.{begins_with_zone}
@@ -11,7 +12,7 @@ use Rattle.expr_tokens.specs.Plain.{Token}
 use Rattle.expr_tokens.specs.Plain as tokens
 use Rattle.expr_tokens.specs.Class.{holds, passes_first}
 use Rattle.expr_tokens.specs.Names.{name_of}
-use Rattle.expr_tokens.specs.Reading.{begins_digit, sign_of, reading_from, alone, tokens_of}
+use Rattle.expr_tokens.specs.Reading.{begins_digit, sign_of, string_limit, reading_from, alone, tokens_of}
 
 -- tokens, and then those of a rest
 abbrev pub before : List Token → Result (List Token) ℕ → Result (List Token) ℕ
@@ -51,6 +52,13 @@ abbrev pub WordsAreRead : Type 0
 WordsAreRead =
     (w : Word) (rest : List ℕ) → passes_first (holds classes.Name) rest ≡ false
     → Lexes (name_of w) (tokens.Word w ∷ []) rest
+
+-- bytes that may stand between quotes, at most as many as a string has
+abbrev pub StringsAreRead : Type 0
+StringsAreRead =
+    (quoted rest : List ℕ) → list_all (holds classes.Quoted) quoted ≡ true
+    → length quoted ≤ string_limit
+    → Lexes (34 ∷ quoted ++ 34 ∷ []) (tokens.Text quoted ∷ []) rest
 
 -- a digit or a minus, which may not stand behind a number
 abbrev pub goes_on : List ℕ → Bool

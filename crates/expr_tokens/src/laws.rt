@@ -1,4 +1,4 @@
-ghost use Rattle.expr_tokens.specs.Laws.{NothingIsRead, PartsAreRead, TextsAreRead, SpacesAreRead, SignsAreRead, WordsAreRead, NumbersAreRead, MomentsAreRead};
+ghost use Rattle.expr_tokens.specs.Laws.{NothingIsRead, PartsAreRead, TextsAreRead, SpacesAreRead, SignsAreRead, WordsAreRead, StringsAreRead, NumbersAreRead, MomentsAreRead};
 ghost use Rattle.expr_tokens.specs.Longest.{ReadsLongest, SpellsOne};
 
 use moment_text::literal_laws;
@@ -20,6 +20,7 @@ pub fn writing_laws()
     ensures spaces { SpacesAreRead }
     ensures signs { SignsAreRead }
     ensures words { WordsAreRead }
+    ensures strings { StringsAreRead }
     ensures numbers { NumbersAreRead }
     ensures moments { MomentsAreRead }
 {

@@ -1,10 +1,10 @@
 -- Written numbers and weekdays are read back.
-use Rattle.std.proofs.Common.{◌≡◌, ℕ, suc, ◌^◌, ◌<◌, ℤ, pos, negsuc, Bool, true, false, ◌&&◌, ◌==◌, nat_le, List, [], ◌∷◌, length, Some, refl, ap, ◌∙◌, arith}
+use Rattle.std.proofs.Common.{◌≡◌, ℕ, suc, ◌^◌, ◌<◌, ℤ, pos, negsuc, Bool, true, false, ◌==◌, nat_le, List, [], ◌∷◌, length, Some, refl, ap, ◌∙◌, arith}
 use Rattle.std.specs.Char.{is_ascii_digit}
 use Rattle.std.specs.Fmt.{decimal, signed_decimal}
 use Rattle.std.specs.List.{list_all}
 use Rattle.std.specs.Prelude.{unsigned_abs}
-use Rattle.std.proofs.lemmas.Bool.{and_parts}
+use Rattle.std.proofs.lemmas.Bool.{and_parts, and_right}
 use Rattle.std.proofs.lemmas.Bool.Decides.{nat_tests}
 use Rattle.std.proofs.lemmas.Fmt.{digits_decimal, digits_value-decimal, decimal_nonempty, length-decimal-le}
 use Rattle.std.proofs.lemmas.Int.{ints}
@@ -33,17 +33,13 @@ no_plus b digit = grind (arith, nat_tests)
 no_minus : (b : ℕ) → is_ascii_digit b ≡ true → (b == 45) ≡ false
 no_minus b digit = grind (arith, nat_tests)
 
-and-false : (b : Bool) → (b && false) ≡ false
-and-false true = refl
-and-false false = refl
-
 -- digits have no sign in front
 unsigned_back : (signed : Bool) (bytes : List ℕ) → 0 < length bytes → list_all is_ascii_digit bytes ≡ true → number_at signed bytes ≡ digits_at false bytes
 unfolding number_at
 unsigned_back signed [] some each = absurd (omega arith)
 unsigned_back signed (b ∷ bytes) some each =
     let digit = (and_parts (is_ascii_digit b) (list_all is_ascii_digit bytes) each).0 in
-    rw (no_plus b digit, no_minus b digit, and-false signed) refl
+    rw (no_plus b digit, no_minus b digit, and_right signed false refl) refl
 
 pub positive_back : (signed : Bool) (n : ℕ) → n < 10 ^ 10 → number_at signed (decimal n) ≡ Some (pos n)
 positive_back signed n small =

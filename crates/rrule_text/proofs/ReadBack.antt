@@ -9,6 +9,7 @@ use Rattle.std.specs.Str.{bytes_eq}
 use Rattle.std.proofs.lemmas.Bool.{and_from, and_parts}
 use Rattle.std.proofs.lemmas.Bool.Decides.{nat_tests}
 use Rattle.std.proofs.lemmas.List.{append-nil, map-append}
+use Rattle.std.proofs.lemmas.List.Folds.{list_all-append}
 use Rattle.std.proofs.Math.Seq.{drop-append-add}
 use Rattle.moment_core.specs.declared.line.Moment.{Moment}
 use Rattle.rule_core.specs.declared.ical.IcalRule.{IcalRule}
@@ -21,7 +22,7 @@ use Rattle.rule_core.specs.FieldChecks.{is_interval}
 use Rattle.rule_core.specs.IcalChecks.{check_ical, is_bad_part}
 use Rattle.rule_core.specs.Laws.{IcalIntervalFits, IcalValuesFit, UntilsAreOfYears}
 use Rattle.rule_core.specs.WrittenForm.{HasWeekdays, IsWritable}
-use Rattle.rrule_text.specs.Laws.{WrittenIsRead}
+use Rattle.rrule_text.specs.Laws.{WrittenIsPlain, WrittenIsRead, is_plain}
 use Rattle.rrule_text.specs.Names.{freq_name, freq_named}
 use Rattle.rrule_text.specs.Numbers.{item_at, number_at}
 use Rattle.rrule_text.specs.Pieces.{split_at, is_value, are_pieces}
@@ -290,20 +291,47 @@ text_is : (r : IcalRule) → text_of r ≡ piece_text parts.Freq (freq_name r.fr
 unfolding text_of
 text_is r = ap (λ (x : List ℕ). piece_text parts.Freq (freq_name r.freq) ++ x) (text_joined (others_of r))
 
-pub read_back : IcalValuesFit → IcalIntervalFits → UntilsAreOfYears → WrittenIsRead
+-- a checked rule, and the parts that it writes
+record IsGood (r : IcalRule) : Type 0 where
+  fit : (part : Part) → is_bad_part r part ≡ false
+  within : is_interval r.interval ≡ true
+  years : (m : Moment) → r.until ≡ Some m → IsOfYears m.0
+
+is_good : IcalValuesFit → IcalIntervalFits → UntilsAreOfYears → (r : IcalRule) → IsWritable r → IsGood r
 unfolding is_bad_part
+is_good values_fit interval_fit of_years r w = record {
+  fit = λ part. values_fit r part w.checked;
+  within = interval_fit r w.checked;
+  years = λ m e. of_years m (until_fine r.until (values_fit r parts.Until w.checked) m e);
+}
+
+pub read_back : IcalValuesFit → IcalIntervalFits → UntilsAreOfYears → WrittenIsRead
 read_back values_fit interval_fit of_years r w d =
-    let fit : (part : Part) → is_bad_part r part ≡ false = λ part. values_fit r part w.checked in
-    let within = interval_fit r w.checked in
-    let years = λ (m : Moment) (e : r.until ≡ Some m). of_years m (until_fine r.until (fit parts.Until) m e) in
-    let each = all_fit r fit within d years in
+    let g = is_good values_fit interval_fit of_years r w in
+    let each = all_fit r g.fit g.within d g.years in
     let ps = pieces_of (others_of r) in
     let freq = freq_is r.freq in
     let clean = pieces_spoken (others_of r) each in
     let some = pieces_some (others_of r) refl in
     let body = piece_text parts.Freq (freq_name r.freq) ++ flat_map (next_of 59) ps in
     let split : split_at 59 body ≡ pieces_of (entries r) = pieces_are (freq_name r.freq) ps freq.spoken_all clean in
-    rw (text_is r, body_is (freq_name r.freq) ps freq.spoken_all some clean) (said r body split fit within w d years)
+    rw (text_is r, body_is (freq_name r.freq) ps freq.spoken_all some clean) (said r body split g.fit g.within w d g.years)
+
+spoken_plain : (b : ℕ) → spoken b ≡ true → is_plain b ≡ true
+spoken_plain b h = grind (arith, nat_tests)
+
+joined_plain : (x : List ℕ) (ps : List (List ℕ)) → list_all spoken x ≡ true → each_spoken ps ≡ true → list_all is_plain (x ++ flat_map (next_of 59) ps) ≡ true
+joined_plain x [] first each = rw (append-nil x) (weaken spoken is_plain spoken_plain x first)
+joined_plain x (p ∷ ps) first each =
+    let parts = and_parts (list_all spoken p) (each_spoken ps) each in
+    list_all-append is_plain x (59 ∷ p ++ flat_map (next_of 59) ps)
+    ∙ rw (weaken spoken is_plain spoken_plain x first, joined_plain p ps parts.0 parts.1) refl
+
+pub written_plain : IcalValuesFit → IcalIntervalFits → UntilsAreOfYears → WrittenIsPlain
+written_plain values_fit interval_fit of_years r w d =
+    let g = is_good values_fit interval_fit of_years r w in
+    let clean = pieces_spoken (others_of r) (all_fit r g.fit g.within d g.years) in
+    rw (text_is r) (joined_plain (piece_text parts.Freq (freq_name r.freq)) (pieces_of (others_of r)) (freq_is r.freq).spoken_all clean)
 
 -- what a writer gives is read back
 pub back_if_written : WrittenIsRead → (r : IcalRule) → IsWritable r → {T E : Type 0} (items : T → List ℕ) (result : Result T E)

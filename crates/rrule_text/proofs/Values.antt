@@ -1,12 +1,12 @@
 -- The values of a checked rule are written and read back.
-use Rattle.std.proofs.Common.{◌≡◌, ℕ, suc, ◌<◌, ◌≤◌, ◌^◌, ℤ, pos, negsuc, Bool, true, false, not, ◌&&◌, ◌||◌, ◌==◌, List, [], ◌∷◌, Option, Some, None, refl, ◌∙◌, arith}
+use Rattle.std.proofs.Common.{◌≡◌, ℕ, suc, ◌<◌, ◌≤◌, ◌^◌, ℤ, pos, negsuc, Bool, true, false, not, ◌&&◌, ◌==◌, List, [], ◌∷◌, Option, Some, None, refl, ◌∙◌, arith}
 use Rattle.std.specs.Prelude.{int_lt, option_map, unsigned_abs, if◌then◌else◌}
 use Rattle.std.specs.Fmt.{signed_decimal}
 use Rattle.std.specs.Int.{IsInRange}
 use Rattle.std.specs.List.{All, list_any}
 use Rattle.std.specs.Option.{option_to_list}
 use Rattle.std.specs.Ordering.{int_eq}
-use Rattle.std.proofs.lemmas.Bool.{not-false}
+use Rattle.std.proofs.lemmas.Bool.{not-false, or_parts}
 use Rattle.std.proofs.lemmas.Bool.Decides.{nat_tests}
 use Rattle.std.proofs.lemmas.Int.{ints}
 use Rattle.rule_core.specs.declared.lists.DayItem.{DayItem}
@@ -28,10 +28,6 @@ use Rattle.rrule_text.proofs.Numerals.{number_back, positive_back}
 use Rattle.rrule_text.proofs.Ordered.{ordered_same}
 use Rattle.rrule_text.proofs.Words.{day_is, item_back, item_words, signed_words, spoken, weaken, word, word_spoken}
 
-or_false : (a b : Bool) → (a || b) ≡ false → (a ≡ false) × (b ≡ false)
-or_false true b e = absurd cc
-or_false false b e = (refl, e)
-
 -- a number from 0 on with at most 10 digits, which needs no sign
 natural_back : (z : ℤ) (low high : ℕ) → high < 10 ^ 10 → is_within (pos low) (pos high) z ≡ true → IsBack signed_decimal (number_at false) z
 natural_back (pos n) low high small within =
@@ -51,13 +47,13 @@ signed_back z n small within =
 pub naturals_back : (low high : ℕ) (zs : List ℤ) → high < 10 ^ 10 → is_outside (pos low) (pos high) zs ≡ false → AllBack signed_decimal (number_at false) zs
 naturals_back low high [] small good = tt
 naturals_back low high (z ∷ zs) small good =
-    let both = or_false (not (is_within (pos low) (pos high) z)) (is_outside (pos low) (pos high) zs) good in
+    let both = or_parts (not (is_within (pos low) (pos high) z)) (is_outside (pos low) (pos high) zs) good in
     (natural_back z low high small (not-false (is_within (pos low) (pos high) z) both.0), naturals_back low high zs small both.1)
 
 pub signeds_back : (n : ℕ) (zs : List ℤ) → n < 10 ^ 10 → is_outside_signed n zs ≡ false → AllBack signed_decimal (number_at true) zs
 signeds_back n [] small good = tt
 signeds_back n (z ∷ zs) small good =
-    let both = or_false (not (is_signed n z)) (is_outside_signed n zs) good in
+    let both = or_parts (not (is_signed n z)) (is_outside_signed n zs) good in
     (signed_back z n small (not-false (is_signed n z) both.0), signeds_back n zs small both.1)
 
 -- a list of numbers is of the form of its part, and is read back
@@ -91,7 +87,7 @@ few_ordinal z good = by_zero (int_eq z (pos 0)) refl good
 pub items_back : (items : List DayItem) → All (λ (item : DayItem). IsInRange 1 7 item.day) items → list_any is_bad_item items ≡ false → AllBack item_text item_at items
 items_back [] days good = tt
 items_back (item ∷ items) days good =
-    let both = or_false (is_bad_item item) (list_any is_bad_item items) good in
+    let both = or_parts (is_bad_item item) (list_any is_bad_item items) good in
     let day = days 0 item (omega arith) in
     let few = few_ordinal item.nth both.0 in
     (record { words = item_words item day few; back = item_back item day few }, items_back items (λ k d lt. days (suc k) d (omega arith)) both.1)

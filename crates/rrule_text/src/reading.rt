@@ -198,14 +198,16 @@ fn rule_in(alloc: Global, body: &[u8], start: Stamp) -> Result<IcalRule, RruleFa
     }
 }
 
-/// The rule that a text writes (RFC 5545, 3.3.10), with this first moment, DTSTART. All fourteen parts are read, in any order,
-/// in letters of either case, behind `RRULE:` or without it, and with one `;` at the end or without; each list is brought
-/// into its order, without repeats. UNTIL as a bare date is the last second of its day.
+/// The rule that a text writes (RFC 5545, 3.3.10), with this first moment, DTSTART. All fourteen
+/// parts are read, in any order, in letters of either case, behind `RRULE:` or without it, and with
+/// one `;` at the end or without; each list is brought into its order, without repeats. UNTIL as a
+/// bare date is the last second of its day.
 ///
-/// The first fault of this order decides, and want of memory can come at any place. `Syntax`: the text isn't of that form, or
-/// FREQ is missing. `Repeated`: the first part whose name stood in the text before. `Rule`: what `IcalRule::check` says
-/// first, where an ordinal of BYDAY that is written as 0, and an UNTIL that names no moment of the years 0000 to 9999, are
-/// values out of range.
+/// The first fault of this order decides, and want of memory can come at any place. `Syntax`: the
+/// text isn't of that form, or FREQ is missing. `Repeated`: the first part whose name stood in the
+/// text before. `Rule`: what `IcalRule::check` says first, where an ordinal of BYDAY that is
+/// written as 0, and an UNTIL that names no moment of the years 0000 to 9999, are values out of
+/// range.
 #[tactic(auto, unfolding(crate::specs::Reading::body_of))]
 pub fn read_rrule(alloc: Global, text: &[u8], start: Stamp) -> Result<IcalRule, RruleFault>
     ensures answer { Tells (rule_of text.now start) result }

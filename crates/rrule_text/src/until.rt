@@ -60,7 +60,8 @@ fn without_z(text: &[u8]) -> &[u8]
     }
 }
 
-/// Whether the text has a form of UNTIL: a date, or a date with a time of day, and with a `Z` or without.
+/// Whether the text has a form of UNTIL: a date, or a date with a time of day, and with a `Z` or
+/// without.
 #[tactic(auto, unfolding(crate::specs::Until::is_until_text))]
 pub(crate) fn is_until_text(text: &[u8]) -> bool
     ensures { result ≡ is_until_text text.now }
@@ -89,8 +90,8 @@ fn put_two_digits(out: &mut Vec<u8>, n: u8) -> Result<(), AllocError>
     Ok(())
 }
 
-// Moments of the years 0000 to 9999 may lie past the working range. 400 years earlier, when dates and times of day are the
-// same, they don't.
+// Moments of the years 0000 to 9999 may lie past the working range. 400 years earlier, when dates
+// and times of day are the same, they don't.
 
 fn cycle_before(t: Moment) -> Moment
     requires { is_until t ≡ true }
@@ -183,8 +184,8 @@ impl DateTime {
 
     /// The moment that they name, or one past the year 9999.
     fn moment(&self) -> Moment
-        ensures { result.0 ≡ named self.now.year self.now.month self.now.day self.now.hour self.now.minute
-            self.now.second }
+        ensures { result.0 ≡ named self.now.year self.now.month self.now.day
+            self.now.hour self.now.minute self.now.second }
     {
         let year = year_before(self.year);
         match civil_core::moment(
@@ -229,7 +230,8 @@ fn named_by(date: &[u8], time: &[u8]) -> Moment
     DateTime::read(date, time).moment()
 }
 
-/// The moment that the text names, a date being its last second, or one past the year 9999 where it names none.
+/// The moment that the text names, a date being its last second, or one past the year 9999 where it
+/// names none.
 #[tactic(auto, unfolding(crate::specs::Until::until_at, crate::specs::Until::is_date, crate::specs::Until::is_date_time))]
 pub(crate) fn until_at(text: &[u8]) -> Moment
     ensures { result.0 ≡ until_at text.now }

@@ -169,7 +169,8 @@ fn put_limits(out: &mut Vec<u8>, rule: &IcalRule) -> Result<(), AllocError>
 // The parts from BYMONTH to BYDAY.
 fn put_days(out: &mut Vec<u8>, rule: &IcalRule) -> Result<(), AllocError>
     ensures weekdays { OnOk result (AreWeekdays rule.now.by_day) }
-    ensures text { OnOk result (out.new.items ≡ out.old.items ++ flat_map part_text (days_of rule.now)) }
+    ensures text { OnOk result
+        (out.new.items ≡ out.old.items ++ flat_map part_text (days_of rule.now)) }
 {
     put_numbers(out, Part::ByMonth, rule.by_month.items())?;
     put_numbers(out, Part::ByWeekNo, rule.by_week.items())?;
@@ -181,7 +182,8 @@ fn put_days(out: &mut Vec<u8>, rule: &IcalRule) -> Result<(), AllocError>
 // The parts from BYHOUR to WKST.
 fn put_times(out: &mut Vec<u8>, rule: &IcalRule) -> Result<(), AllocError>
     ensures weekday { OnOk result (IsInRange 1 7 rule.now.week_start) }
-    ensures text { OnOk result (out.new.items ≡ out.old.items ++ flat_map part_text (times_of rule.now)) }
+    ensures text { OnOk result
+        (out.new.items ≡ out.old.items ++ flat_map part_text (times_of rule.now)) }
 {
     put_numbers(out, Part::ByHour, rule.by_hour.items())?;
     put_numbers(out, Part::ByMinute, rule.by_minute.items())?;
@@ -217,8 +219,9 @@ fn written(alloc: Global, rule: &IcalRule) -> Result<Vec<u8>, AllocError>
     Ok(out)
 }
 
-/// The one written form of a rule: the parts in the order of the table of RFC 5545 (3.3.10), UNTIL with its time of day,
-/// INTERVAL where it isn't 1, WKST where it isn't MO, and each list in its order. It is read back as the rule.
+/// The one written form of a rule: the parts in the order of the table of RFC 5545 (3.3.10), UNTIL
+/// with its time of day, INTERVAL where it isn't 1, WKST where it isn't MO, and each list in its
+/// order. It is read back as the rule.
 pub fn write_rrule(alloc: Global, rule: &IcalRule) -> Result<Vec<u8>, AllocError>
     requires { IsWritable rule.now }
     ensures form { IfOk result (λ text. text.items ≡ text_of rule.now) }

@@ -7,19 +7,19 @@ use Rattle.expr_text.proofs.Making.{form_pushed, places_pushed, reaches_left, va
 use Rattle.expr_text.proofs.Moments.{listed_from}
 use Rattle.expr_text.proofs.building.leftmost.Goals as goal
 
-pub returns-in-List : goal.returns-in-List
-returns-in-List c =
+pub returns-in-List-clause-made : goal.returns-in-List-clause-made
+returns-in-List-clause-made c =
     let h = c.left.invariant in
     let is = listed_from c.in-List.literals.items c.of.result (rw c.in-List.is at h.dated) (search rules) in
     reaches_left c.left.left.now (form_of c.args.tree.now) (places_of c.args.tree.now) (Ok (exprs.List c.of.result)) c.left.steps.items h.whole h.whole_places
-    (rw c.in-List.is tt) (rw c.in-List.is (refl, is))
+    (rw c.in-List.is tt) (rw c.in-List.is (refl, refl, is))
 
-pub returns-in_err-span-in-Span : goal.returns-in_err-span-in-Span
-returns-in_err-span-in-Span c =
+pub returns-in_err-span-in-Span-clause-made : goal.returns-in_err-span-in-Span-clause-made
+returns-in_err-span-in-Span-clause-made c =
     let h = c.left.invariant in
     let is : c.from_residual-in_err-span-in-Span.result ≡ Err c.in_err-span-in-Span.field-0.0 = search rules in
     rw is (vacant_within c.left.steps.items (form_of c.left.left.now) (form_of c.args.tree.now) (places_of c.left.left.now) (places_of c.args.tree.now)
-    (fault_in c.in_err-span-in-Span.field-0.0) h.whole h.whole_places (rw c.in-Span.is c.in_err-span-in-Span.ensures))
+    (fault_in c.in_err-span-in-Span.field-0.0) h.whole h.whole_places (rw c.in-Span.is c.in_err-span-in-Span.ensures.made))
 
 pub left-preserved-in-Joined : goal.left-preserved-in-Joined
 left-preserved-in-Joined c =
@@ -43,3 +43,10 @@ left-preserved c =
       whole_places = rw (pushed, c.deref-left-in-Inverse.ensures, places_pushed c.left.steps.items steps.Behind (places_of inner)) (rw c.in-Inverse.is at h.whole_places);
       dated = rw c.deref-left-in-Inverse.ensures (rw c.in-Inverse.is at h.dated);
     }
+
+pub returns-in_err-recurrence-in-Rrule-clause-made : goal.returns-in_err-recurrence-in-Rrule-clause-made
+returns-in_err-recurrence-in-Rrule-clause-made c =
+    let h = c.left.invariant in
+    let is : c.from_residual-in_err-recurrence-in-Rrule.result ≡ Err c.in_err-recurrence-in-Rrule.field-0.0 = search rules in
+    rw is (vacant_within c.left.steps.items (form_of c.left.left.now) (form_of c.args.tree.now) (places_of c.left.left.now) (places_of c.args.tree.now)
+    (fault_in c.in_err-recurrence-in-Rrule.field-0.0) h.whole h.whole_places (rw c.in-Rrule.is c.in_err-recurrence-in-Rrule.ensures.made))

@@ -1,4 +1,4 @@
-use Rattle.expr_tokens.proofs.Writing.{Lexes-append, Lexes-all, Lexes-moment, Lexes-nothing, Lexes-number, Lexes-sign, Lexes-space, Lexes-word}
+use Rattle.expr_tokens.proofs.Writing.{Lexes-append, Lexes-all, Lexes-moment, Lexes-nothing, Lexes-number, Lexes-sign, Lexes-space, Lexes-string, Lexes-word}
 use Rattle.expr_tokens.proofs.laws.writing_laws.Goals as goal
 
 pub returns-clause-nothing : goal.returns-clause-nothing
@@ -18,6 +18,9 @@ returns-clause-signs c = Lexes-sign
 
 pub returns-clause-words : goal.returns-clause-words
 returns-clause-words c = Lexes-word
+
+pub returns-clause-strings : goal.returns-clause-strings
+returns-clause-strings c = Lexes-string
 
 pub returns-clause-numbers : goal.returns-clause-numbers
 returns-clause-numbers c = Lexes-number c.literal_laws.ensures.form c.literal_laws.ensures.longest c.literal_laws.ensures.end

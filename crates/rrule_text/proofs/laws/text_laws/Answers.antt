@@ -1,4 +1,4 @@
-use Rattle.rrule_text.proofs.ReadBack.{read_back}
+use Rattle.rrule_text.proofs.ReadBack.{read_back, written_plain}
 use Rattle.rrule_text.proofs.Writable.{writable}
 use Rattle.rrule_text.proofs.laws.text_laws.Goals as goal
 
@@ -7,3 +7,6 @@ returns-clause-writable c = writable
 
 pub returns-clause-back : goal.returns-clause-back
 returns-clause-back c = read_back c.rule_laws.ensures.ical_values c.rule_laws.ensures.ical_interval c.rule_laws.ensures.until
+
+pub returns-clause-plain : goal.returns-clause-plain
+returns-clause-plain c = written_plain c.rule_laws.ensures.ical_values c.rule_laws.ensures.ical_interval c.rule_laws.ensures.until
