@@ -5,9 +5,9 @@ use Rattle.expr_tree.specs.declared.sorting.SortFault.TheVariants as sorts
 use Rattle.moment_core.specs.Line.{IsWorkingMoment}
 use Rattle.moment_core.specs.declared.line.Clock.TheVariants.{Floating}
 use Rattle.report_text.specs.Lines.{moment_text, with_line_feed}
-use Rattle.report_text.specs.Parts.{rule_fault_text}
+use Rattle.report_text.specs.Parts.{part_name, rule_fault_text}
 use Rattle.report_text.specs.declared.refusals.Refusal.{Refusal}
-use Rattle.report_text.specs.declared.refusals.Refusal.TheVariants.{Words, Unbuilt, Long, Token, Syntax, Moment, Rule, Sort, Two, Clock, Settle}
+use Rattle.report_text.specs.declared.refusals.Refusal.TheVariants.{Words, Unbuilt, Long, Token, Syntax, Moment, Rule, RruleSyntax, RruleRepeated, Rrule, Sort, Two, Clock, Settle}
 
 abbrev pub sort_text : SortFault → List ℕ
 sort_text sorts.Nodes = codes "nodes"
@@ -26,6 +26,9 @@ refusal_text (Token byte) = codes "token " ++ decimal byte
 refusal_text Syntax = codes "syntax"
 refusal_text (Moment byte) = codes "moment " ++ decimal byte
 refusal_text (Rule fault) = codes "rule " ++ rule_fault_text fault
+refusal_text RruleSyntax = codes "rrule syntax"
+refusal_text (RruleRepeated part) = codes "rrule repeated " ++ part_name part
+refusal_text (Rrule fault) = codes "rrule " ++ rule_fault_text fault
 refusal_text (Sort fault) = codes "sort " ++ sort_text fault
 refusal_text Two = codes "two"
 refusal_text Clock = codes "clock"

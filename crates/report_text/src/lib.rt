@@ -6,16 +6,19 @@
 //! where nothing is said past the calendar range.
 #![tactic(auto)]
 
+mod items;
 mod lines;
 mod neighbours;
 mod parts;
 mod pieces;
 mod refusals;
 
+pub use items::{line_item, line_more};
 pub use lines::{LINE_FEED, Line};
 pub use moment_text::read_moment;
 pub use neighbours::{line_near, line_test};
 pub use refusals::{Refusal, line_refusal};
+pub use token_text::read_token;
 
 #[cfg(test)]
 mod tests;

@@ -55,7 +55,8 @@ fn put_test(line: &mut Line, test: Test)
     }
 }
 
-/// The line that tells whether a moment is a member: `yes`, `no`, or `budget` with the position and the node of the stop.
+/// The line that tells whether a moment is a member: `yes`, `no`, or `budget` with the position and
+/// the node of the stop.
 pub fn line_test(test: Test) -> Line
     ensures { result ≡ test_line test }
 {

@@ -45,6 +45,16 @@ fn part_name(part: Part) -> &'static [u8]
     }
 }
 
+/// A word, and the name of the part.
+pub(crate) fn put_named(line: &mut Line, word: &[u8], part: Part)
+    requires room { length line.old + length word.now + 10 ≤ 128 }
+    ensures bytes { line.new ≡ line.old ++ (word.now ++ part_name part) }
+    ensures len { length line.new ≤ length line.old + length word.now + 10 }
+{
+    line.put(word);
+    line.put(part_name(part));
+}
+
 /// Which fault the rule has, with its keys.
 pub(crate) fn put_rule_fault(line: &mut Line, fault: RuleFault)
     requires room { length line.old + 25 ≤ 128 }
@@ -58,10 +68,7 @@ pub(crate) fn put_rule_fault(line: &mut Line, fault: RuleFault)
             line.put(b" ");
             line.put(part_name(second));
         }
-        RuleFault::BadValue(part) => {
-            line.put(b"value ");
-            line.put(part_name(part));
-        }
+        RuleFault::BadValue(part) => put_named(line, b"value ", part),
         RuleFault::BadInterval => line.put(b"interval"),
     }
 }

@@ -1,14 +1,14 @@
 //! The lines that refuse words or a text.
 
-ghost use Rattle.std.specs.Prelude.{◌≡◌, ◌≤◌, ◌+◌, ◌++◌, length};
+ghost use Rattle.std.specs.Prelude.{◌≡◌, ◌≤◌, ◌+◌, ◌++◌, decimal, length};
 ghost use Rattle.report_text.specs.Refusals.{IsPrintable, refusal_line, refusal_text, sort_text};
 
 use crate::lines::Line;
-use crate::parts::put_rule_fault;
+use crate::parts::{put_named, put_rule_fault};
 use crate::pieces::{put_moment, put_number};
 use expr_tree::SortFault;
 use moment_core::{Clock, Moment};
-use rule_core::RuleFault;
+use rule_core::{Part, RuleFault};
 
 /// Why a query isn't answered. The first cause of this order decides.
 #[derive(Clone, Copy, Debug, PartialEq, Eq)]
@@ -27,6 +27,12 @@ pub enum Refusal {
     Moment(usize),
     /// A rule by fields is none, by its fault.
     Rule(RuleFault),
+    /// The text of a rule of RFC 5545 isn't of the form of one.
+    RruleSyntax,
+    /// The part stands twice in the text of a rule.
+    RruleRepeated(Part),
+    /// The rule that a text writes is none, by its fault.
+    Rrule(RuleFault),
     /// An expression has no sort.
     Sort(SortFault),
     /// The number of expressions isn't the command's.
@@ -52,6 +58,16 @@ fn sort_text(fault: SortFault) -> &'static [u8]
     }
 }
 
+/// A word and a number in decimal.
+fn put_numbered(line: &mut Line, word: &[u8], number: u64)
+    requires { length line.old + length word.now + 20 ≤ 128 }
+    ensures bytes { line.new ≡ line.old ++ (word.now ++ decimal number) }
+    ensures len { length line.new ≤ length line.old + length word.now + 20 }
+{
+    line.put(word);
+    put_number(line, number);
+}
+
 fn put_refusal(line: &mut Line, refusal: Refusal)
     requires room { length line.old + 60 ≤ 128 }
     requires printable { IsPrintable refusal }
@@ -59,23 +75,20 @@ fn put_refusal(line: &mut Line, refusal: Refusal)
     ensures len { length line.new ≤ length line.old + 60 }
 {
     match refusal {
-        Refusal::Words(n) => {
-            line.put(b"words ");
-            put_number(line, n as u64);
-        }
+        Refusal::Words(n) => put_numbered(line, b"words ", n as u64),
         Refusal::Unbuilt => line.put(b"unbuilt"),
         Refusal::Long => line.put(b"long"),
-        Refusal::Token(byte) => {
-            line.put(b"token ");
-            put_number(line, byte as u64);
-        }
+        Refusal::Token(byte) => put_numbered(line, b"token ", byte as u64),
         Refusal::Syntax => line.put(b"syntax"),
-        Refusal::Moment(byte) => {
-            line.put(b"moment ");
-            put_number(line, byte as u64);
-        }
+        Refusal::Moment(byte) => put_numbered(line, b"moment ", byte as u64),
         Refusal::Rule(fault) => {
             line.put(b"rule ");
+            put_rule_fault(line, fault);
+        }
+        Refusal::RruleSyntax => line.put(b"rrule syntax"),
+        Refusal::RruleRepeated(part) => put_named(line, b"rrule repeated ", part),
+        Refusal::Rrule(fault) => {
+            line.put(b"rrule ");
             put_rule_fault(line, fault);
         }
         Refusal::Sort(fault) => {
@@ -85,8 +98,7 @@ fn put_refusal(line: &mut Line, refusal: Refusal)
         Refusal::Two => line.put(b"two"),
         Refusal::Clock => line.put(b"clock"),
         Refusal::Settle { passed, at } => {
-            line.put(b"settle ");
-            put_number(line, passed);
+            put_numbered(line, b"settle ", passed);
             line.put(b" ");
             put_moment(line, at, Clock::Floating);
         }

@@ -1,13 +1,13 @@
 ghost use Rattle.std.specs.Prelude.{◌≡◌, true};
-ghost use Rattle.span_core.specs.Answers.{IsCalendarNear};
-ghost use Rattle.span_core.specs.Bounds.{IsCalendarBound};
+ghost use Rattle.span_core.specs.Answers.{IsCalendarItem, IsCalendarNear, IsCalendarWindow};
+ghost use Rattle.span_core.specs.Bounds.{IsCalendarBound, IsCalendarRun};
 ghost use Rattle.report_text.specs.Refusals.{IsPrintable};
 
-use crate::{Refusal, line_near, line_refusal};
+use crate::{Refusal, line_item, line_more, line_near, line_refusal};
 use expr_tree::{Kind, SortFault};
-use moment_core::{Clock, HIGH, LOW, Moment, Pos, Window, floor, in_range, in_work};
+use moment_core::{Clock, Dir, HIGH, LOW, Moment, Pos, Window, floor, in_range, in_work};
 use rule_core::{Part, RuleFault};
-use span_core::{Bound, Near, Run, Stop};
+use span_core::{Bound, Item, Near, Run, Stop, Token, Why};
 use std::process::Abort;
 
 fn is_calendar_bound(bound: Bound) -> bool
@@ -19,13 +19,35 @@ fn is_calendar_bound(bound: Bound) -> bool
     }
 }
 
+fn is_calendar_run(run: Run) -> bool
+    ensures { result ≡ true → IsCalendarRun run }
+{
+    is_calendar_bound(run.first) && is_calendar_bound(run.last)
+}
+
+fn is_calendar_window(window: Window) -> bool
+    ensures { result ≡ true → IsCalendarWindow window }
+{
+    in_range(floor(window.lo)) && in_range(floor(window.hi))
+}
+
 fn is_calendar_near(near: Near) -> bool
     ensures { result ≡ true → IsCalendarNear near }
 {
     match near {
-        Near::Found(run) => is_calendar_bound(run.first) && is_calendar_bound(run.last),
-        Near::None(window) => in_range(floor(window.lo)) && in_range(floor(window.hi)),
+        Near::Found(run) => is_calendar_run(run),
+        Near::None(window) => is_calendar_window(window),
         Near::Edge | Near::Budget(_) => true,
+    }
+}
+
+fn is_calendar_item(item: Item) -> bool
+    ensures { result ≡ true → IsCalendarItem item }
+{
+    match item {
+        Item::Run(run) => is_calendar_run(run),
+        Item::Done(Why::None(window)) => is_calendar_window(window),
+        Item::Done(Why::To) | Item::Done(Why::Edge) | Item::Budget(_) => true,
     }
 }
 
@@ -154,6 +176,56 @@ fn stops_have_these_lines(rt: HostRuntime) {
     }
 }
 
+const WALK: Token = Token {
+    dir: Dir::Fore,
+    place: Pos(1_942_855_201),
+    begun: None,
+    end: Pos(500_556_326_398),
+};
+
+const LONGEST: Token = Token {
+    dir: Dir::Back,
+    place: Pos(i64::MIN),
+    begun: Some(Pos(i64::MIN)),
+    end: Pos(i64::MIN),
+};
+
+#[test]
+fn items_of_a_walk_have_these_lines(rt: HostRuntime) {
+    const RUN: Run = Run {
+        first: Bound::Closed(BEGIN),
+        last: Bound::Closed(BEGIN),
+    };
+    const WINDOW: Window = Window {
+        lo: Pos(-1),
+        hi: Pos(1),
+    };
+    const ROWS: &[(Item, &str)] = &[
+        (Item::Run(RUN), "2024-01-01T00:00:00Z\n"),
+        (Item::Done(Why::To), "end\n"),
+        (
+            Item::Done(Why::None(WINDOW)),
+            "none 1969-12-31T23:59:59Z .. 1970-01-01T00:00:00Z\n",
+        ),
+        (Item::Done(Why::Edge), "edge\n"),
+        (
+            Item::Budget(WALK),
+            "budget fore:1942855201:-:500556326398\n",
+        ),
+        (
+            Item::Budget(LONGEST),
+            "budget back:-9223372036854775808:-9223372036854775808:-9223372036854775808\n",
+        ),
+    ];
+    for (item, text) in ROWS {
+        assert!(rt; is_calendar_item(*item), "{text}");
+        let line = line_item(*item, Kind::Moments, Clock::Absolute);
+        assert_eq!(rt; line.bytes(), text.as_bytes(), "{text}");
+    }
+    let text = "more fore:1942855201:-:500556326398\n";
+    assert_eq!(rt; line_more(WALK).bytes(), text.as_bytes());
+}
+
 fn is_printable(refusal: Refusal) -> bool
     ensures { result ≡ true → IsPrintable refusal }
 {
@@ -187,6 +259,23 @@ fn a_refusal_names_its_fault(rt: HostRuntime) {
         (
             Refusal::Rule(RuleFault::BadInterval),
             "refused rule interval\n",
+        ),
+        (Refusal::RruleSyntax, "refused rrule syntax\n"),
+        (
+            Refusal::RruleRepeated(Part::ByMonthDay),
+            "refused rrule repeated BYMONTHDAY\n",
+        ),
+        (
+            Refusal::Rrule(RuleFault::BadMix(Part::ByMonthDay, Part::Freq)),
+            "refused rrule mix BYMONTHDAY FREQ\n",
+        ),
+        (
+            Refusal::Rrule(RuleFault::BadValue(Part::Until)),
+            "refused rrule value UNTIL\n",
+        ),
+        (
+            Refusal::Rrule(RuleFault::BadInterval),
+            "refused rrule interval\n",
         ),
         (Refusal::Sort(SortFault::Nodes), "refused sort nodes\n"),
         (Refusal::Sort(SortFault::Depth), "refused sort depth\n"),
