@@ -1,0 +1,11 @@
+mod Ending
+mod Endless
+mod Fitting
+mod Following
+mod Listing
+mod Order
+mod Ranging
+mod Resting
+mod Stepping
+mod Taking
+mod Together

@@ -1,0 +1,35 @@
+use Rattle.std.proofs.Common.{◌≡◌, subst}
+use Rattle.moment_core.specs.Sets.{ahead}
+use Rattle.stored_pair.specs.Meanings.{Meaning}
+use Rattle.expr_tree.specs.Tree.{Tree}
+use Rattle.plan_core.specs.Plans.{meant_of_plan, window_of}
+use Rattle.run_search.specs.Runs.{item_from}
+use Rattle.walk_core.specs.declared.steps.Found.TheVariants as founds
+use Rattle.walk_core.proofs.Stepping.{fit_open_stop, honest_open, honest_past, open_given, open_stopped}
+use Rattle.walk_core.proofs.steps.go_on.Goals as goal
+
+pub returns-in-Ok-clause-answer : goal.returns-in-Ok-clause-answer
+returns-in-Ok-clause-answer g c =
+    let P : Tree Meaning → Type 0 = λ t. c.given.result.found ≡ founds.Given (item_from (window_of t) c.args.t.dir c.args.first.0 c.in-Ok.last.0) in
+    open_given (meant_of_plan c.args.plan.now) c.args.budget c.args.t c.given.result.found c.given.result.next c.args.first c.in-Ok.last.0
+    c.requires.begun c.requires.fit c.in-Ok.ensures.last (subst P c.last_of_open.ensures.same c.given.ensures.found) c.given.ensures.next
+
+pub returns-in-Err-clause-answer : goal.returns-in-Err-clause-answer
+returns-in-Err-clause-answer g c =
+    open_stopped (meant_of_plan c.args.plan.now) c.args.budget c.args.t c.stopped.result.found c.stopped.result.next c.args.first c.in-Err.stop
+    c.requires.begun c.in-Err.ensures.stop c.stopped.ensures.found c.stopped.ensures.next
+
+pub returns-in-Err-clause-fit : goal.returns-in-Err-clause-fit
+returns-in-Err-clause-fit g c =
+    fit_open_stop (meant_of_plan c.args.plan.now) c.args.budget c.args.t c.stopped.result.found c.stopped.result.next c.args.first c.in-Err.stop
+    c.requires.begun c.requires.fit c.in-Err.ensures.stop c.stopped.ensures.next
+
+pub returns-in-Ok-clause-honest : goal.returns-in-Ok-clause-honest
+returns-in-Ok-clause-honest g c honest =
+    honest_past (meant_of_plan c.args.plan.now) c.args.budget c.args.t c.given.result.found c.given.result.next (ahead c.args.t.dir c.in-Ok.last.0 1)
+    c.given.ensures.next
+
+pub returns-in-Err-clause-honest : goal.returns-in-Err-clause-honest
+returns-in-Err-clause-honest g c honest =
+    honest_open (meant_of_plan c.args.plan.now) c.args.budget c.args.t c.stopped.result.found c.stopped.result.next c.args.first c.in-Err.stop
+    c.requires.begun c.in-Err.ensures.stop c.stopped.ensures.next honest

@@ -1,0 +1,9 @@
+pub mod Both
+pub mod Endless
+pub mod Found
+pub mod Items
+pub mod Laws
+pub mod Steps
+pub mod Stretch
+pub mod Tokens
+pub mod Walks
