@@ -1,3 +1,4 @@
+pub mod Asking
 pub mod OneReading
 pub mod Positions
 pub mod SettingLemmas

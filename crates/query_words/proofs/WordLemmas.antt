@@ -124,9 +124,6 @@ contains_one x y (suc k, less, e) = absurd (omega (arith, less))
 pub contains_end : {X : Type 0} (xs : List X) (x : X) → Contains (xs ++ x ∷ []) x
 contains_end xs x = Contains-append_right xs (x ∷ []) x (0, omega arith, refl)
 
-pub lacks_none : (key : Key) → Lacks [] key
-lacks_none key value (k, less, e) = absurd (omega (arith, less))
-
 -- a word of another key changes nothing
 pub lacks_more : (words : List (List ℕ)) (key other : Key) (value : List ℕ) → key ≢ other → Lacks words key → Lacks (words ++ word_of other value ∷ []) key
 lacks_more words key other value differs lacks v gives =

@@ -78,6 +78,8 @@ is_built Previous = true
 is_built Current = true
 is_built Closest = true
 is_built Contains = true
+is_built Walk = true
+is_built Resume = true
 is_built Show = true
 is_built other = false
 

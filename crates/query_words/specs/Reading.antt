@@ -2,17 +2,14 @@
 use Rattle.std.specs.Prelude.{◌≡◌, ◌<◌, ◌++◌, ◌∷◌, ℕ, List, length, get_or, Option, Some, None}
 use Rattle.query_words.specs.declared.commands.Command.{Command}
 use Rattle.query_words.specs.declared.commands.Key.{Key}
-use Rattle.query_words.specs.declared.commands.Key.TheVariants.{At, From, To, Dir as DirOf, Limit, Budget, Token, Seed}
+use Rattle.query_words.specs.declared.commands.Key.TheVariants.{At, From, To, Dir as DirOf, Limit, Budget, Token as TokenOf, Seed}
 use Rattle.query_words.specs.declared.values.Value.{Value}
-use Rattle.query_words.specs.declared.values.Value.TheVariants.{Stamp as Stamped, Dir as Directed, Number}
+use Rattle.query_words.specs.declared.values.Value.TheVariants.{Stamp as Stamped, Dir as Directed, Number, Token as Placed}
+use Rattle.moment_core.specs.declared.line.Dir.{Dir}
 use Rattle.moment_core.specs.declared.line.Stamp.{Stamp}
+use Rattle.span_core.specs.declared.answers.Token.{Token}
 use Rattle.query_words.specs.declared.settings.Settings.{Settings}
-use Rattle.query_words.specs.Words.{AreInOrder, Fits, Gives, IsValue, Lacks, Says}
-
--- what the words say of a key, or that they lack it
-abbrev pub Tells : {X : Type 0} → List (List ℕ) → Key → (List ℕ → X → Type 0) → Option X → Type 0
-Tells words key Is None = Lacks words key
-Tells words key Is (Some x) = Says words key Is x
+use Rattle.query_words.specs.Words.{AreInOrder, Fits, Gives, IsValue, Tells}
 
 -- where the value of a key stands
 abbrev pub place_of : Key → ℕ
@@ -22,7 +19,7 @@ place_of To = 2
 place_of DirOf = 3
 place_of Limit = 4
 place_of Budget = 5
-place_of Token = 6
+place_of TokenOf = 6
 place_of Seed = 7
 
 abbrev pub value_at : Settings → Key → Option Value
@@ -46,6 +43,14 @@ AreOrdered None last = Unit {0}
 abbrev pub number_in : Option Value → Option ℕ
 number_in (Some (Number n)) = Some n
 number_in v = None
+
+abbrev pub dir_in : Option Value → Option Dir
+dir_in (Some (Directed dir)) = Some dir
+dir_in v = None
+
+abbrev pub token_in : Option Value → Option Token
+token_in (Some (Placed t)) = Some t
+token_in v = None
 
 -- each of the first n words fits
 abbrev pub FitBelow : Command → List (List ℕ) → ℕ → Type 0

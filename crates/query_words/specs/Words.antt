@@ -1,25 +1,25 @@
 -- The words of a command line: a command, and what each later word sets.
-use Rattle.std.specs.Prelude.{◌≡◌, ◌≢◌, ◌≤ℤ◌, ◌<◌, ◌++◌, ◌∷◌, ℕ, suc, true, false, List, codes, length, Result, Ok, Err}
+use Rattle.std.specs.Prelude.{◌≡◌, ◌≢◌, ◌≤ℤ◌, ◌<◌, ◌++◌, ◌∷◌, ℕ, suc, true, false, List, codes, length, Option, Some, None, Result, Ok, Err}
 use Rattle.std.specs.Int.{IsInRange}
 use Rattle.std.specs.List.{Contains}
 use Rattle.std.specs.Str.Parse.{IsNumeral, digits_value}
 use Rattle.moment_core.specs.declared.line.Stamp.{Stamp}
 use Rattle.moment_text.specs.Literal.{Names}
 use Rattle.query_words.specs.declared.commands.Command.{Command}
-use Rattle.query_words.specs.declared.commands.Command.TheVariants.{Show}
+use Rattle.query_words.specs.declared.commands.Command.TheVariants as commands
 use Rattle.query_words.specs.declared.commands.Key.{Key}
-use Rattle.query_words.specs.declared.commands.Key.TheVariants.{At, From, To, Dir as DirOf, Limit, Budget, Token, Seed}
+use Rattle.query_words.specs.declared.commands.Key.TheVariants.{At, From, To, Dir as DirOf, Limit, Budget, Token as TokenOf, Seed}
 use Rattle.query_words.specs.declared.values.Value.{Value}
-use Rattle.query_words.specs.declared.values.Value.TheVariants.{Stamp as Stamped, Dir as Directed, Number}
+use Rattle.query_words.specs.declared.values.Value.TheVariants.{Stamp as Stamped, Dir as Directed, Number, Token as Placed}
 use Rattle.moment_core.specs.declared.line.Dir.{Dir}
 use Rattle.moment_core.specs.declared.line.Dir.TheVariants.{Fore, Back}
 use Rattle.query_words.specs.declared.queries.Query.{Query}
-use Rattle.query_words.specs.declared.queries.Query.TheVariants.{Near, Show as Showing}
-use Rattle.query_words.specs.declared.queries.Neighbour.{Neighbour}
+use Rattle.query_words.specs.declared.queries.Query.TheVariants.{Near, Walk, Resume, Show}
 use Rattle.query_words.specs.Neighbours.{command_of}
 use Rattle.query_words.specs.declared.queries.WordsFault.{WordsFault}
 use Rattle.query_words.specs.declared.queries.WordsFault.TheVariants.{Unbuilt, Bad}
 use Rattle.query_words.specs.Commands.{name_of, required, keys_of, is_built, key_text}
+use Rattle.token_text.specs.Texts.{Means as IsToken}
 
 -- the word `key=value`
 abbrev pub word_of : Key → List ℕ → List ℕ
@@ -39,8 +39,15 @@ pub record IsNumber (least most : ℕ) (digits : List ℕ) (n : ℕ) : Type 0 wh
   pub value : digits_value 10 digits ≡ n
   pub in_range : IsInRange least most n
 
+abbrev pub IsLimit : List ℕ → ℕ → Type 0
+IsLimit = IsNumber 1 1_000_000
+
 abbrev pub IsBudget : List ℕ → ℕ → Type 0
 IsBudget = IsNumber 1 1_000_000_000_000
+
+-- any number of 64 bits
+abbrev pub IsSeed : List ℕ → ℕ → Type 0
+IsSeed = IsNumber 0 18_446_744_073_709_551_615
 
 -- the literal of a moment of the calendar range, absolute or floating
 abbrev pub IsStamp : List ℕ → Stamp → Type 0
@@ -51,7 +58,7 @@ abbrev pub IsDir : List ℕ → Dir → Type 0
 IsDir text Fore = text ≡ codes "fore"
 IsDir text Back = text ≡ codes "back"
 
--- the text is that of a moment, a direction or a number
+-- the text is that of a moment, a direction, a number or a token
 abbrev pub IsStampValue : List ℕ → Value → Type 0
 IsStampValue text (Stamped s) = IsStamp text s
 IsStampValue text v = ⊥
@@ -60,20 +67,24 @@ abbrev pub IsDirValue : List ℕ → Value → Type 0
 IsDirValue text (Directed dir) = IsDir text dir
 IsDirValue text v = ⊥
 
-abbrev pub IsNumberValue : ℕ → ℕ → List ℕ → Value → Type 0
-IsNumberValue least most text (Number n) = IsNumber least most text n
-IsNumberValue least most text v = ⊥
+abbrev pub IsNumberValue : (List ℕ → ℕ → Type 0) → List ℕ → Value → Type 0
+IsNumberValue Is text (Number n) = Is text n
+IsNumberValue Is text v = ⊥
 
--- what a text means as the value of a key; no token has a text yet
+abbrev pub IsTokenValue : List ℕ → Value → Type 0
+IsTokenValue text (Placed t) = IsToken text t
+IsTokenValue text v = ⊥
+
+-- what a text means as the value of a key
 abbrev pub IsValue : Key → List ℕ → Value → Type 0
 IsValue At = IsStampValue
 IsValue From = IsStampValue
 IsValue To = IsStampValue
 IsValue DirOf = IsDirValue
-IsValue Limit = IsNumberValue 1 1_000_000
-IsValue Budget = IsNumberValue 1 1_000_000_000_000
-IsValue Token = λ text v. ⊥
-IsValue Seed = IsNumberValue 0 18_446_744_073_709_551_615
+IsValue Limit = IsNumberValue IsLimit
+IsValue Budget = IsNumberValue IsBudget
+IsValue TokenOf = IsTokenValue
+IsValue Seed = IsNumberValue IsSeed
 
 -- a word gives the key a value, which says x
 pub record Says {X : Type 0} (later : List (List ℕ)) (key : Key) (Is : List ℕ → X → Type 0)
@@ -81,6 +92,17 @@ pub record Says {X : Type 0} (later : List (List ℕ)) (key : Key) (Is : List �
   pub value : List ℕ
   pub given : Gives later key value
   pub is : Is value x
+
+-- what the words say of a key, or that they lack it
+abbrev pub Tells : {X : Type 0} → List (List ℕ) → Key → (List ℕ → X → Type 0) → Option X → Type 0
+Tells later key Is None = Lacks later key
+Tells later key Is (Some x) = Says later key Is x
+
+-- what the words say of a key, or the default where they lack it
+pub data SaysOr {X : Type 0} (later : List (List ℕ)) (key : Key) (Is : List ℕ → X → Type 0)
+    (default : X) : X → Type 0 where
+  given : (x : X) → Says later key Is x → SaysOr later key Is default x
+  by_default : Lacks later key → SaysOr later key Is default default
 
 -- the second moment is at or after the first, and on its clock
 abbrev pub AreInOrder : Stamp → Stamp → Type 0
@@ -126,18 +148,38 @@ pub record IsFirstBad (command : Command) (later : List (List ℕ)) (n : ℕ) : 
 abbrev pub AreGood : Command → List (List ℕ) → Type 0
 AreGood command later = (n : ℕ) → ¬ (IsBad command later n)
 
--- the budget that the words give, or the default
-pub data SaysBudget (later : List (List ℕ)) : ℕ → Type 0 where
-  given : (n : ℕ) → Says later Budget IsBudget n → SaysBudget later n
-  by_default : Lacks later Budget → SaysBudget later 100_000_000
+abbrev pub SaysDir : List (List ℕ) → Dir → Type 0
+SaysDir later = SaysOr later DirOf IsDir Fore
 
--- The words are those of a built command, they are good, and they ask this query.
-pub data Asks (words : List (List ℕ)) : Query → Type 0 where
-  near : (side : Neighbour) (later : List (List ℕ)) (at : Stamp) (budget : ℕ)
-      → words ≡ name_of (command_of side) ∷ later → AreGood (command_of side) later
-      → Says later At IsStamp at → SaysBudget later budget → Asks words (Near side at budget)
-  show : (later : List (List ℕ)) → words ≡ name_of Show ∷ later → AreGood Show later
-      → Asks words Showing
+abbrev pub SaysLimit : List (List ℕ) → ℕ → Type 0
+SaysLimit later = SaysOr later Limit IsLimit 1_000
+
+abbrev pub SaysBudget : List (List ℕ) → ℕ → Type 0
+SaysBudget later = SaysOr later Budget IsBudget 100_000_000
+
+-- the command that asks a query
+abbrev pub command_of_query : Query → Command
+command_of_query (Near side at budget) = command_of side
+command_of_query (Walk from to dir limit budget) = commands.Walk
+command_of_query (Resume token limit budget) = commands.Resume
+command_of_query Show = commands.Show
+
+-- what the words say of each key of a query
+abbrev pub SayEach : List (List ℕ) → Query → Type 0
+SayEach later (Near side at budget) = Says later At IsStamp at × SaysBudget later budget
+SayEach later (Walk from to dir limit budget) =
+    Tells later From IsStamp from × Tells later To IsStamp to × SaysDir later dir
+    × SaysLimit later limit × SaysBudget later budget
+SayEach later (Resume token limit budget) =
+    Says later TokenOf IsToken token × SaysLimit later limit × SaysBudget later budget
+SayEach later Show = Unit {0}
+
+-- The words are those of the query's command, they are good, and they say each key of the query.
+pub record Asks (words : List (List ℕ)) (query : Query) : Type 0 where
+  pub later : List (List ℕ)
+  pub is : words ≡ name_of (command_of_query query) ∷ later
+  pub good : AreGood (command_of_query query) later
+  pub says : SayEach later query
 
 -- The words are refused with this fault.
 pub data IsRefused (words : List (List ℕ)) : WordsFault → Type 0 where

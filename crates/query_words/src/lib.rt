@@ -15,7 +15,8 @@ mod values;
 pub use commands::{Command, Key};
 pub use laws::words_laws;
 pub use queries::{Neighbour, Query, WordsFault};
-pub use reading::{DEFAULT_BUDGET, read_words};
+pub use reading::read_words;
+pub use values::{DEFAULT_BUDGET, DEFAULT_LIMIT, MAX_BUDGET, MAX_LIMIT};
 
 #[cfg(test)]
 mod tests;

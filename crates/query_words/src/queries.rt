@@ -6,7 +6,8 @@ ghost use Rattle.query_words.specs.Commands.{is_built, required};
 ghost use Rattle.query_words.specs.Neighbours.{command_of, neighbour_of};
 
 use crate::commands::Command;
-use moment_core::Stamp;
+use moment_core::{Dir, Stamp};
+use span_core::Token;
 
 /// What a query asks for by a moment.
 #[derive(Clone, Copy, Debug, PartialEq, Eq)]
@@ -61,6 +62,21 @@ pub enum Query {
     Near {
         side: Neighbour,
         at: Stamp,
+        budget: u64,
+    },
+    /// The first `limit` items of the window from `from` to `to`, in the direction, with a budget
+    /// for each search. Where an end isn't given, it is that of the calendar range.
+    Walk {
+        from: Option<Stamp>,
+        to: Option<Stamp>,
+        dir: Dir,
+        limit: u64,
+        budget: u64,
+    },
+    /// The next `limit` items of a walk that stands at the token, with a budget for each search.
+    Resume {
+        token: Token,
+        limit: u64,
         budget: u64,
     },
     /// The printed form of the text.

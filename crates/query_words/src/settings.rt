@@ -1,16 +1,20 @@
 //! What the words behind a command set.
 
-ghost use Rattle.std.specs.Prelude.{◌≡◌, ◌<◌, ◌+◌, ◌^◌, ◌++◌, ◌∷◌, [], ℕ, List, map, length, IsTrue, true, false, MatchResult};
+ghost use Rattle.std.specs.Prelude.{◌≡◌, ◌<◌, ◌+◌, ◌^◌, ◌++◌, ◌∷◌, [], ℕ, List, map, length, unwrap_or, IsTrue, true, false, MatchResult};
 ghost use Rattle.std.specs.String.{string_bytes};
+ghost use Rattle.moment_core.specs.declared.line.Dir.TheVariants.{Fore};
+ghost use Rattle.query_words.specs.declared.commands.Key.TheVariants.{Budget, Dir as DirOf, Limit, Token as TokenOf};
 ghost use Rattle.query_words.specs.Commands.{name_of, is_built};
 ghost use Rattle.query_words.specs.Words.{word_of, Agrees, Fits, InForm, IsRefused, Lacks};
-ghost use Rattle.query_words.specs.Reading.{number_in, place_of, stamp_in, value_at, AllFit, AreOrdered, Holds};
+ghost use Rattle.query_words.specs.Reading.{dir_in, number_in, place_of, stamp_in, token_in, value_at, AllFit, AreOrdered, Holds};
 
 use crate::commands::{Command, Key};
 use crate::queries::WordsFault;
-use crate::values::{Value, read_value, setting};
-use moment_core::Stamp;
+use crate::values::{DEFAULT_BUDGET, DEFAULT_LIMIT, Value, read_value, setting};
+use moment_core::{Dir, Stamp};
 use moment_text::literal_laws;
+use span_core::Token;
+use token_text::token_laws;
 
 /// The values that words give, by key; None where they don't.
 #[derive(Clone, Copy, Debug)]
@@ -68,13 +72,47 @@ impl Settings {
     }
 
     /// The number that the words give the key.
-    pub(crate) fn number(&self, key: Key) -> Option<u64>
+    fn number(&self, key: Key) -> Option<u64>
         ensures { result ≡ number_in (value_at self.now key) }
     {
         match self.get(key) {
             Some(Value::Number(n)) => Some(n),
             _ => None,
         }
+    }
+
+    /// The token that the words give.
+    pub(crate) fn token(&self) -> Option<Token>
+        ensures { result ≡ token_in (value_at self.now TokenOf) }
+    {
+        match self.get(Key::Token) {
+            Some(Value::Token(token)) => Some(token),
+            _ => None,
+        }
+    }
+
+    /// The direction that the words give, or else forwards.
+    pub(crate) fn dir(&self) -> Dir
+        ensures { result ≡ unwrap_or (dir_in (value_at self.now DirOf)) Fore }
+    {
+        match self.get(Key::Dir) {
+            Some(Value::Dir(dir)) => dir,
+            _ => Dir::Fore,
+        }
+    }
+
+    /// The limit that the words give, or the default.
+    pub(crate) fn limit(&self) -> u64
+        ensures { result ≡ unwrap_or (number_in (value_at self.now Limit)) 1_000 }
+    {
+        self.number(Key::Limit).unwrap_or(DEFAULT_LIMIT)
+    }
+
+    /// The budget that the words give, or the default.
+    pub(crate) fn budget(&self) -> u64
+        ensures { result ≡ unwrap_or (number_in (value_at self.now Budget)) 100_000_000 }
+    {
+        self.number(Key::Budget).unwrap_or(DEFAULT_BUDGET)
     }
 
     /// Whether the value and what was set before are the ends of a window in order, where they are
@@ -116,6 +154,7 @@ impl Settings {
             → ¬ (Lacks before key × InForm before key value.now) }
     {
         literal_laws();
+        token_laws();
         let Some(read) = read_value(key, value) else {
             return false;
         };

@@ -3,17 +3,25 @@
 ghost use Rattle.std.specs.Prelude.{◌≡◌, ◌≢◌, ℕ, List, IfSome, IfNone};
 ghost use Rattle.query_words.specs.declared.commands.Key.{Key};
 ghost use Rattle.query_words.specs.declared.values.Value.{Value as TheValue};
-ghost use Rattle.query_words.specs.Words.{word_of, IsDirValue, IsNumber, IsNumberValue, IsStampValue, IsValue};
+ghost use Rattle.query_words.specs.Words.{word_of, IsDirValue, IsNumber, IsNumberValue, IsStampValue, IsTokenValue, IsValue};
 
 use crate::commands::Key;
 use moment_core::{Dir, Stamp};
 use moment_text::read_moment;
+use span_core::Token;
+use token_text::read_token;
 
 /// The greatest budget of a search.
-const MAX_BUDGET: u64 = 1_000_000_000_000;
+pub const MAX_BUDGET: u64 = 1_000_000_000_000;
+
+/// The budget of a search where the words give none.
+pub const DEFAULT_BUDGET: u64 = 100_000_000;
 
 /// The greatest limit of items.
-const MAX_LIMIT: u64 = 1_000_000;
+pub const MAX_LIMIT: u64 = 1_000_000;
+
+/// The limit of items where the words give none.
+pub const DEFAULT_LIMIT: u64 = 1_000;
 
 /// The key and the value of a word `key=value`, or None for another word.
 pub(crate) fn setting(word: &str) -> Option<(Key, &str)>
@@ -48,6 +56,7 @@ pub enum Value {
     Stamp(Stamp),
     Dir(Dir),
     Number(u64),
+    Token(Token),
 }
 
 fn stamp_value(text: &str) -> Option<Value>
@@ -72,8 +81,9 @@ fn dir_value(text: &str) -> Option<Value>
 }
 
 fn number_value(text: &str, least: u64, most: u64) -> Option<Value>
-    ensures some { IfSome result (IsNumberValue least most text.now) }
-    ensures none { IfNone result ((v : TheValue) → ¬ (IsNumberValue least most text.now v)) }
+    ensures some { IfSome result (IsNumberValue (IsNumber least most) text.now) }
+    ensures none { IfNone result ((v : TheValue)
+        → ¬ (IsNumberValue (IsNumber least most) text.now v)) }
 {
     match read_number(text, least, most) {
         Some(n) => Some(Value::Number(n)),
@@ -81,7 +91,17 @@ fn number_value(text: &str, least: u64, most: u64) -> Option<Value>
     }
 }
 
-/// The value of a key, or None for a text that isn't in the key's form. No text is a token yet.
+fn token_value(text: &str) -> Option<Value>
+    ensures some { IfSome result (IsTokenValue text.now) }
+    ensures none { IfNone result ((v : TheValue) → ¬ (IsTokenValue text.now v)) }
+{
+    match read_token(text.as_bytes()) {
+        Some(token) => Some(Value::Token(token)),
+        None => None,
+    }
+}
+
+/// The value of a key, or None for a text that isn't in the key's form.
 pub(crate) fn read_value(key: Key, text: &str) -> Option<Value>
     ensures some { IfSome result (IsValue key text.now) }
     ensures none { IfNone result ((v : TheValue) → ¬ (IsValue key text.now v)) }
@@ -91,7 +111,7 @@ pub(crate) fn read_value(key: Key, text: &str) -> Option<Value>
         Key::Dir => dir_value(text),
         Key::Limit => number_value(text, 1, MAX_LIMIT),
         Key::Budget => number_value(text, 1, MAX_BUDGET),
-        Key::Token => None,
+        Key::Token => token_value(text),
         Key::Seed => number_value(text, 0, u64::MAX),
     }
 }

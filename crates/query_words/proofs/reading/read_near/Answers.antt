@@ -3,7 +3,7 @@ use Rattle.std.proofs.lemmas.List.{length-map}
 use Rattle.std.specs.String.{string_bytes}
 use Rattle.query_words.specs.declared.commands.Key.TheVariants.{At}
 use Rattle.query_words.specs.Reading.{stamp_in, value_at}
-use Rattle.query_words.proofs.SettingLemmas.{near_asks, near_lacks_at}
+use Rattle.query_words.proofs.Asking.{near_asks, near_lacks_at}
 use Rattle.query_words.proofs.reading.read_near.Goals as goal
 
 pub returns-in_default : goal.returns-in_default
@@ -17,4 +17,4 @@ pub returns : goal.returns
 returns c =
     let words = map string_bytes c.args.later.now in
     let s = c.in_ok-settings.settings in
-    near_asks c.args.side words s c.in-Some.at c.unwrap_or-budget.result (rw c.command.ensures.value at c.in_ok-settings.ensures.0) c.in_ok-settings.ensures.1 (search rules) (rw c.number.ensures at c.unwrap_or-budget.ensures)
+    rw c.budget.ensures (near_asks c.args.side words s c.in-Some.at (rw c.command.ensures.value at c.in_ok-settings.ensures.0) c.in_ok-settings.ensures.1 (search rules))

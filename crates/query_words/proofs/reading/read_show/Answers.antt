@@ -1,6 +1,6 @@
 use Rattle.std.proofs.Common.{map}
 use Rattle.std.specs.String.{string_bytes}
-use Rattle.query_words.proofs.SettingLemmas.{show_asks}
+use Rattle.query_words.proofs.Asking.{show_asks}
 use Rattle.query_words.proofs.reading.read_show.Goals as goal
 
 pub returns : goal.returns

@@ -24,5 +24,5 @@ returns-clause-fits c = λ e before h.
 
 pub returns-then-not-agrees-clause-unfit : goal.returns-then-not-agrees-clause-unfit
 returns-then-not-agrees-clause-unfit c = λ e before h x.
-    let same = one_meaning c.literal_laws.ensures.apart c.args.key c.args.value.now x.1.value c.in-Some.read x.1.is c.in-Some.ensures.some in
+    let same = one_meaning c.literal_laws.ensures.apart c.token_laws.ensures.apart c.args.key c.args.value.now x.1.value c.in-Some.read x.1.is c.in-Some.ensures.some in
     c.agrees.ensures.unfit c.if-not-agrees.true before h (subst (Agrees before c.args.key) same x.1.agrees)
