@@ -28,7 +28,7 @@ use Rattle.query_core.specs.Laws.{NeighboursAreUnique, NeighboursExist, Neighbou
 use Rattle.query_words.specs.Laws.{WordsAreReadOnce, WordsAreRead}
 use Rattle.query_words.specs.Words.{AreRead}
 use Rattle.query_words.specs.declared.queries.Query.{Query}
-use Rattle.query_words.specs.declared.queries.Query.TheVariants.{Near as NearBy, Show}
+use Rattle.query_words.specs.declared.queries.Query.TheVariants.{Near as NearBy, Resume, Show, Walk}
 use Rattle.query_words.specs.declared.queries.WordsFault.{WordsFault}
 use Rattle.query_words.specs.declared.queries.Neighbour.{Neighbour}
 use Rattle.query_words.specs.declared.queries.Neighbour.TheVariants.{Next, Previous, Current, Closest, Contains}
@@ -41,9 +41,11 @@ use Rattle.report_text.specs.declared.refusals.Refusal.TheVariants as refusals
 use Rattle.set_query.specs.Laws.{OutcomesAreUnique, OutcomesExist, RefusalsAreAlone}
 use Rattle.set_query.specs.Reading.{AreSecondSorts, AreSettledFor, AreSorts, Fits, IsMeant, IsUnsettledFor, Reading, OnClock, Passes, Settles, Sorts, faulty, on_clock, sets, sets_clock, settled, takes, unless_clock, unless_two, unsettled, words_clock}
 use Rattle.set_query.specs.Refusals.{text_refusal, words_refusal}
-use Rattle.set_query.specs.Report.{Outcome, IsInRange, IsOutcome, IsPrinted, IsReply, IsAskedBy, IsReportOf, IsSearched, IsTested, answered, answers, asked, bad_words, printed, refused, refused_by, replied, stops, tested, told}
+use Rattle.set_query.specs.Report.{Outcome, IsInRange, IsOutcome, IsPrinted, IsReply, IsAskedBy, IsReportOf, IsSearched, IsTested, answered, answers, asked, bad_words, printed, refused, refused_by, replied, stops, tested, told, window_given}
 use Rattle.set_query.proofs.OutcomeLemmas.{report_not_refused as not_refused}
+use Rattle.walk_core.specs.Tokens.{window_token}
 use Rattle.set_query.proofs.PreparingLemmas.{asks_in_range}
+use Rattle.set_query.proofs.WalkLemmas.{Walks, one_walk, some_walk, window_fits}
 
 -- a search has one outcome, stops aside
 one_searched : {found : Near → Type 0} {places : Dir → ℤ → Type 0} {due : Dir → ℤ → ℕ → Stop → Type 0} {kind : Kind} {clock : Clock} {budget : ℕ} → ((x y : Near) → found x → found y → x ≡ y)
@@ -65,9 +67,13 @@ one_asked runs t Contains kind clock at budget a b h k = λ d e. one_tested a b 
 one_printed : {trees : Trees} (a b : Outcome) → IsPrinted trees a → IsPrinted trees b → a ≡ b
 one_printed a b printed printed = refl
 
-one_report : NeighboursAreUnique → (entries : Entries) (query : Query) (reading : Reading) (clock : Clock) (a b : Outcome) → IsReportOf entries query reading clock a → IsReportOf entries query reading clock b → a.status ≢ 3 → b.status ≢ 3 → a ≡ b
-one_report runs entries Show reading clock a b h k d e = one_printed a b h k
-one_report runs entries (NearBy side at budget) reading clock a b h k d e = one_asked runs (meant_of entries reading.trees.first) side reading.sorts.first.kind clock at.moment.0 budget a b h k d e
+one_report : NeighboursAreUnique → Walks → (entries : Entries) (query : Query) (reading : Reading) (clock : Clock) (a b : Outcome) → IsInRange query → IsReportOf entries query reading clock a → IsReportOf entries query reading clock b → a.status ≢ 3 → b.status ≢ 3 → a ≡ b
+one_report runs walks entries Show reading clock a b within h k d e = one_printed a b h k
+one_report runs walks entries (NearBy side at budget) reading clock a b within h k d e = one_asked runs (meant_of entries reading.trees.first) side reading.sorts.first.kind clock at.moment.0 budget a b h k d e
+one_report runs walks entries (Walk from to dir limit budget) reading clock a b within h k d e =
+    one_walk (meant_of entries reading.trees.first) reading.sorts.first.kind clock (window_token (window_given from to) dir) limit budget walks a b (window_fits walks.begin from to dir within.0 within.1) h k d e
+one_report runs walks entries (Resume token limit budget) reading clock a b within h k d e =
+    one_walk (meant_of entries reading.trees.first) reading.sorts.first.kind clock token limit budget walks a b within.0 h k d e
 
 -- what is given to a phase behind the words: any text
 abbrev AnyText : List ℕ → Type 0
@@ -163,6 +169,8 @@ settle_phase reads entries query = record { some = λ x h. some query x (settles
     settles_or_not : (q : Query) (x : OnClock) → IsWellFormed x.reading.trees.first → AreSettledFor q x.reading.trees ⊎ ((u : Unsettled) × IsUnsettledFor q x.reading.trees u)
     settles_or_not Show x h = inl tt
     settles_or_not (NearBy side at budget) x h = reads.settled x.reading.trees.first h
+    settles_or_not (Walk from to dir limit budget) x h = reads.settled x.reading.trees.first h
+    settles_or_not (Resume token limit budget) x h = reads.settled x.reading.trees.first h
 
     some : (q : Query) (x : OnClock) → AreSettledFor q x.reading.trees ⊎ ((u : Unsettled) × IsUnsettledFor q x.reading.trees u) → (r : Result OnClock Refusal) × Settles q x r
     some q x (inl are) = (Ok x, settled are)
@@ -171,10 +179,14 @@ settle_phase reads entries query = record { some = λ x h. some query x (settles
     apart : (q : Query) (x : OnClock) (u : Unsettled) → AreSettledFor q x.reading.trees → IsUnsettledFor q x.reading.trees u → ⊥
     apart Show x u are none = none
     apart (NearBy side at budget) x u are none = reads.apart x.reading.trees.first u are none
+    apart (Walk from to dir limit budget) x u are none = reads.apart x.reading.trees.first u are none
+    apart (Resume token limit budget) x u are none = reads.apart x.reading.trees.first u are none
 
     same_unsettled : (q : Query) (x : OnClock) (u v : Unsettled) → IsUnsettledFor q x.reading.trees u → IsUnsettledFor q x.reading.trees v → u ≡ v
     same_unsettled Show x u v h k = absurd h
     same_unsettled (NearBy side at budget) x u v h k = reads.one x.reading.trees.first u v h k
+    same_unsettled (Walk from to dir limit budget) x u v h k = reads.one x.reading.trees.first u v h k
+    same_unsettled (Resume token limit budget) x u v h k = reads.one x.reading.trees.first u v h k
 
     one : (q : Query) (x : OnClock) (r s : Result OnClock Refusal) → Settles q x r → Settles q x s → r ≡ s
     one q x r s (settled are) (settled also) = refl
@@ -193,39 +205,39 @@ all_phases reads entries query =
     (settle_phase reads entries query))
 
 -- a text has one outcome for a query, and a refusal is alone
-one_reply : Reads → NeighboursAreUnique → (entries : Entries) (query : Query) (text : List ℕ) (a b : Outcome) → IsReply entries query text a → IsReply entries query text b → (a.status ≡ 2) ⊎ ((a.status ≢ 3) × (b.status ≢ 3)) → a ≡ b
-one_reply reads runs entries query text a b (refused r h) (refused s k) d =
+one_reply : Reads → NeighboursAreUnique → Walks → (entries : Entries) (query : Query) (text : List ℕ) (a b : Outcome) → IsInRange query → IsReply entries query text a → IsReply entries query text b → (a.status ≡ 2) ⊎ ((a.status ≢ 3) × (b.status ≢ 3)) → a ≡ b
+one_reply reads runs walks entries query text a b within (refused r h) (refused s k) d =
     let both : Err r ≡ Err s = (all_phases reads entries query).one text (Err r) (Err s) h k in
     let same : r ≡ s = cc in
     ap refused_by same
-one_reply reads runs entries query text a b (refused r h) (replied x o k report) d = let both : Err r ≡ Ok x = (all_phases reads entries query).one text (Err r) (Ok x) h k in absurd cc
-one_reply reads runs entries query text a b (replied x o h report) (refused r k) d = let both : Ok x ≡ Err r = (all_phases reads entries query).one text (Ok x) (Err r) h k in absurd cc
-one_reply reads runs entries query text a b (replied x o h report) (replied y p k other) d =
+one_reply reads runs walks entries query text a b within (refused r h) (replied x o k report) d = let both : Err r ≡ Ok x = (all_phases reads entries query).one text (Err r) (Ok x) h k in absurd cc
+one_reply reads runs walks entries query text a b within (replied x o h report) (refused r k) d = let both : Ok x ≡ Err r = (all_phases reads entries query).one text (Ok x) (Err r) h k in absurd cc
+one_reply reads runs walks entries query text a b within (replied x o h report) (replied y p k other) d =
     let both : Ok y ≡ Ok x = (all_phases reads entries query).one text (Ok y) (Ok x) k h in
     let same : y ≡ x = cc in
     let also = subst (λ (z : OnClock). IsReportOf entries query z.reading z.clock b) same other in
     elim d [
       | inl two ↦ absurd (not_refused entries query x.reading x.clock a report two)
-      | inr free ↦ one_report runs entries query x.reading x.clock a b report also free.0 free.1
+      | inr free ↦ one_report runs walks entries query x.reading x.clock a b within report also free.0 free.1
     ]
 
-one_outcome : Reads → WordsAreReadOnce → NeighboursAreUnique → (entries : Entries) (words : List (List ℕ)) (text : List ℕ) (a b : Outcome) → IsOutcome entries words text a → IsOutcome entries words text b → (a.status ≡ 2) ⊎ ((a.status ≢ 3) × (b.status ≢ 3)) → a ≡ b
-one_outcome reads unique runs entries words text a b (bad_words fault r) (bad_words other k) d =
+one_outcome : Reads → WordsAreReadOnce → NeighboursAreUnique → Walks → (entries : Entries) (words : List (List ℕ)) (text : List ℕ) (a b : Outcome) → IsOutcome entries words text a → IsOutcome entries words text b → (a.status ≡ 2) ⊎ ((a.status ≢ 3) × (b.status ≢ 3)) → a ≡ b
+one_outcome reads unique runs walks entries words text a b (bad_words fault r) (bad_words other k) d =
     let both = unique words (Err fault) (Err other) r k in
     let same : fault ≡ other = cc in
     ap (λ (f : WordsFault). refused_by (words_refusal f)) same
-one_outcome reads unique runs entries words text a b (bad_words fault r) (asked query o asks k) d = let both = unique words (Err fault) (Ok query) r asks in absurd cc
-one_outcome reads unique runs entries words text a b (asked query o asks r) (bad_words fault k) d = let both = unique words (Ok query) (Err fault) asks k in absurd cc
-one_outcome reads unique runs entries words text a b (asked query o asks r) (asked other o_b asks_b k) d =
+one_outcome reads unique runs walks entries words text a b (bad_words fault r) (asked query o asks k) d = let both = unique words (Err fault) (Ok query) r asks in absurd cc
+one_outcome reads unique runs walks entries words text a b (asked query o asks r) (bad_words fault k) d = let both = unique words (Ok query) (Err fault) asks k in absurd cc
+one_outcome reads unique runs walks entries words text a b (asked query o asks r) (asked other o_b asks_b k) d =
     let both = unique words (Ok other) (Ok query) asks_b asks in
     let same : other ≡ query = cc in
-    one_reply reads runs entries query text a b r (subst (λ (q : Query). IsReply entries q text b) same k) d
+    one_reply reads runs walks entries query text a b (asks_in_range words query asks) r (subst (λ (q : Query). IsReply entries q text b) same k) d
 
-pub outcomes_are_unique : Reads → WordsAreReadOnce → NeighboursAreUnique → OutcomesAreUnique
-outcomes_are_unique reads unique runs entries words text a b h k d e = one_outcome reads unique runs entries words text a b h k (inr (d, e))
+pub outcomes_are_unique : Reads → WordsAreReadOnce → NeighboursAreUnique → Walks → OutcomesAreUnique
+outcomes_are_unique reads unique runs walks entries words text a b h k d e = one_outcome reads unique runs walks entries words text a b h k (inr (d, e))
 
-pub refusals_are_alone : Reads → WordsAreReadOnce → NeighboursAreUnique → RefusalsAreAlone
-refusals_are_alone reads unique runs entries words text a b h k two = one_outcome reads unique runs entries words text a b h k (inl two)
+pub refusals_are_alone : Reads → WordsAreReadOnce → NeighboursAreUnique → Walks → RefusalsAreAlone
+refusals_are_alone reads unique runs walks entries words text a b h k two = one_outcome reads unique runs walks entries words text a b h k (inl two)
 
 -- each command asks something that is told
 some_asked : NeighboursExist → NeighboursHoldForEver → (t : Tree Meaning) (side : Neighbour) (kind : Kind) (clock : Clock) (at : ℤ) (budget : ℕ) → IsCalendarMoment at → AreLawful t → (o : Outcome) × IsAskedBy t side kind clock at budget o
@@ -244,21 +256,25 @@ some_asked runs hold t Closest kind clock at budget range h =
 some_asked runs hold t Contains kind clock at budget range h = (record { status = 0; bytes = test_line (test_of (is_member t (position_of at))) }, tested)
 
 -- some report is made of a reading
-some_report : NeighboursExist → NeighboursHoldForEver → (entries : Entries) (query : Query) (reading : Reading) (clock : Clock) → IsInRange query → CanMean entries reading → (o : Outcome) × IsReportOf entries query reading clock o
-some_report runs hold entries Show reading clock range h = (answered (print_program reading.trees), printed)
-some_report runs hold entries (NearBy side at budget) reading clock range h =
+some_report : NeighboursExist → NeighboursHoldForEver → Walks → (entries : Entries) (query : Query) (reading : Reading) (clock : Clock) → IsInRange query → CanMean entries reading → (o : Outcome) × IsReportOf entries query reading clock o
+some_report runs hold walks entries Show reading clock range h = (answered (print_program reading.trees), printed)
+some_report runs hold walks entries (NearBy side at budget) reading clock range h =
     some_asked runs hold (meant_of entries reading.trees.first) side reading.sorts.first.kind clock at.moment.0 budget range.0 h.1
+some_report runs hold walks entries (Walk from to dir limit budget) reading clock range h =
+    some_walk (meant_of entries reading.trees.first) reading.sorts.first.kind clock (window_token (window_given from to) dir) limit budget walks h.1 (window_fits walks.begin from to dir range.0 range.1)
+some_report runs hold walks entries (Resume token limit budget) reading clock range h =
+    some_walk (meant_of entries reading.trees.first) reading.sorts.first.kind clock token limit budget walks h.1 range.0
 
-some_reply : Reads → NeighboursExist → NeighboursHoldForEver → (entries : Entries) (query : Query) (text : List ℕ) → IsInRange query → (o : Outcome) × IsReply entries query text o
-some_reply reads runs hold entries query text range = let x = (all_phases reads entries query).some text tt in by_result x.0 x.1
+some_reply : Reads → NeighboursExist → NeighboursHoldForEver → Walks → (entries : Entries) (query : Query) (text : List ℕ) → IsInRange query → (o : Outcome) × IsReply entries query text o
+some_reply reads runs hold walks entries query text range = let x = (all_phases reads entries query).some text tt in by_result x.0 x.1
   where
     by_result : (r : Result OnClock Refusal) → Passes query text r → (o : Outcome) × IsReply entries query text o
     by_result (Err refusal) h = (refused_by refusal, refused refusal h)
-    by_result (Ok x) h = let o = some_report runs hold entries query x.reading x.clock range ((all_phases reads entries query).gives text x tt h) in (o.0, replied x o.0 h o.1)
+    by_result (Ok x) h = let o = some_report runs hold walks entries query x.reading x.clock range ((all_phases reads entries query).gives text x tt h) in (o.0, replied x o.0 h o.1)
 
-pub outcomes_exist : Reads → WordsAreRead → NeighboursExist → NeighboursHoldForEver → OutcomesExist
-outcomes_exist reads exist runs hold entries words text = by_answer (exist words).0 (exist words).1
+pub outcomes_exist : Reads → WordsAreRead → NeighboursExist → NeighboursHoldForEver → Walks → OutcomesExist
+outcomes_exist reads exist runs hold walks entries words text = by_answer (exist words).0 (exist words).1
   where
     by_answer : (answer : Result Query WordsFault) → AreRead words answer → (o : Outcome) × IsOutcome entries words text o
-    by_answer (Ok query) asks = let reply = some_reply reads runs hold entries query text (asks_in_range words query asks) in (reply.0, asked query reply.0 asks reply.1)
+    by_answer (Ok query) asks = let reply = some_reply reads runs hold walks entries query text (asks_in_range words query asks) in (reply.0, asked query reply.0 asks reply.1)
     by_answer (Err fault) r = (refused_by (words_refusal fault), bad_words fault r)

@@ -13,12 +13,11 @@ use Rattle.expr_tree.specs.Tree.{Rule, Tree, Trees, meant_of}
 use Rattle.expr_tree.specs.declared.tree.Kind.{Kind}
 use Rattle.moment_core.specs.Clocks.{one_clock}
 use Rattle.moment_core.specs.declared.line.Clock.{Clock}
-use Rattle.moment_core.specs.declared.line.Stamp.{Stamp}
 use Rattle.stored_pair.specs.Meanings.{Entries, Meaning}
 use Rattle.query_words.specs.Laws.{WordsAreReadOnce}
 use Rattle.query_words.specs.Words.{Asks, IsRefused}
 use Rattle.query_words.specs.declared.queries.Query.{Query}
-use Rattle.query_words.specs.declared.queries.Query.TheVariants.{Near as NearBy, Show}
+use Rattle.query_words.specs.declared.queries.Query.TheVariants.{Near as NearBy, Resume, Show, Walk}
 use Rattle.query_words.specs.declared.queries.WordsFault.{WordsFault}
 use Rattle.query_words.specs.declared.queries.Neighbour.{Neighbour}
 use Rattle.query_words.specs.declared.queries.Neighbour.TheVariants.{Next, Previous, Current, Closest, Contains}
@@ -34,7 +33,7 @@ use Rattle.moment_core.specs.declared.line.Dir.TheVariants.{Fore, Back}
 use Rattle.span_core.specs.declared.answers.Near.{Near}
 use Rattle.span_core.specs.declared.answers.Stop.{Stop}
 use Rattle.run_search.specs.Places.{IsAmpleAt}
-use Rattle.query_core.specs.Neighbours.{IsClosestRun, IsCurrentRun, IsNextRun, IsRunBeside, closer_of}
+use Rattle.query_core.specs.Neighbours.{IsClosestRun, IsCurrentRun, IsNextRun, closer_of}
 use Rattle.expr_tree.specs.Members.{is_member}
 use Rattle.plan_core.specs.Plans.{window_of}
 use Rattle.span_core.specs.declared.answers.Near.TheVariants as nears
@@ -43,8 +42,11 @@ use Rattle.set_query.specs.Effects.{IsDone, IsReported, IsWritten, IsOutcomeOf, 
 use Rattle.set_query.specs.declared.reading.TheConstants.{ROOM}
 use Rattle.set_query.specs.Reading.{AreSorts, IsMeant, Reading, OnClock, Passes, Settles, faulty, on_clock, sets, sets_clock, settled, takes, words_clock}
 use Rattle.set_query.specs.Refusals.{words_refusal}
-use Rattle.set_query.specs.Report.{Outcome, HasAmpleBudget, IsAmpleBy, IsAskedBy, IsEnough, IsFoundBy, IsInRange, IsOutcome, IsPrinted, IsReply, IsReportOf, IsSearched, IsTested, answers, asked, bad_words, printed, refused, refused_by, replied, status_of, stops, tested}
+use Rattle.set_query.specs.Report.{Outcome, HasAmpleBudget, IsAmpleBy, IsAbovePlaces, IsAskedBy, IsEnough, IsFoundBy, IsInRange, IsOutcome, IsPrinted, IsReply, IsReportOf, IsSearched, IsTested, answers, asked, bad_words, printed, refused, refused_by, replied, status_of, stops, tested, window_given}
+use Rattle.cert_audit.specs.Ample.{IsAmple}
+use Rattle.walk_core.specs.Tokens.{window_token}
 use Rattle.set_query.proofs.PreparingLemmas.{asks_in_range}
+use Rattle.set_query.proofs.WalkLemmas.{Walks, walk_done, walk_never_stops, walk_not_refused, window_fits}
 
 take-short : (text : List ℕ) (n : ℕ) → length text ≤ n → take n text ≡ text
 take-short text n h = grind (arith, common_steps)
@@ -157,11 +159,15 @@ printed_done printed = refl
 report_done : (entries : Entries) (query : Query) (reading : Reading) (clock : Clock) (o : Outcome) → IsReportOf entries query reading clock o → IsDone o.status
 report_done entries Show reading clock o h = inl (printed_done h)
 report_done entries (NearBy side at budget) reading clock o h = asked_done (meant_of entries reading.trees.first) side reading.sorts.first.kind clock at.moment.0 budget o h
+report_done entries (Walk from to dir limit budget) reading clock o h = walk_done (meant_of entries reading.trees.first) reading.sorts.first.kind clock (window_token (window_given from to) dir) limit budget o h
+report_done entries (Resume token limit budget) reading clock o h = walk_done (meant_of entries reading.trees.first) reading.sorts.first.kind clock token limit budget o h
 
 -- a report is no refusal
 pub report_not_refused : (entries : Entries) (query : Query) (reading : Reading) (clock : Clock) (o : Outcome) → IsReportOf entries query reading clock o → o.status ≡ 2 → ⊥
 report_not_refused entries Show reading clock o h e = let zero = printed_done h in absurd (omega (arith, e, zero))
 report_not_refused entries (NearBy side at budget) reading clock o h e = asked_not_refused (meant_of entries reading.trees.first) side reading.sorts.first.kind clock at.moment.0 budget o h e
+report_not_refused entries (Walk from to dir limit budget) reading clock o h e = walk_not_refused (meant_of entries reading.trees.first) reading.sorts.first.kind clock (window_token (window_given from to) dir) limit budget o h e
+report_not_refused entries (Resume token limit budget) reading clock o h e = walk_not_refused (meant_of entries reading.trees.first) reading.sorts.first.kind clock token limit budget o h e
 
 reply_done : {query : Query} {text : List ℕ} {entries : Entries} {o : Outcome} → IsReply entries query text o → IsDone o.status
 reply_done (refused refusal h) = inr (inl refl)
@@ -208,7 +214,7 @@ never_stops t Closest kind clock at budget o h e ample = searched_never_stops (n
 never_stops t Contains kind clock at budget o h e ample = let zero = tested_done h in absurd (omega (arith, e, zero))
 
 -- a budget that is enough stops no search, for a tree with a sort
-never_due : EnoughFindsNeighbours → AmpleFindsNeighbours → SortedStayInReach → (entries : Entries) (t : Tree Rule) (side : Neighbour) (sort : Sort) (at : ℤ) (budget : ℕ) → sort_of_tree t ≡ Ok sort → IsCalendarMoment at → IsEnough (meant_of entries t) side at budget → IsAmpleBy (meant_of entries t) side at budget
+never_due : EnoughFindsNeighbours → AmpleFindsNeighbours → SortedStayInReach → (entries : Entries) (t : Tree Rule) (side : Neighbour) (sort : Sort) (at : ℤ) (budget : ℕ) → sort_of_tree t ≡ Ok sort → IsCalendarMoment at → (IsAbovePlaces (meant_of entries t) side at budget ⊎ IsAmple (meant_of entries t) budget) → IsAmpleBy (meant_of entries t) side at budget
 never_due enough finds reach entries t Next sort at budget sorted here (inl above) = enough.next (meant_of entries t) Fore budget at here above
 never_due enough finds reach entries t Next sort at budget sorted here (inr ample) = finds.next (meant_of entries t) Fore budget at (reach entries t sort sorted) here ample
 never_due enough finds reach entries t Previous sort at budget sorted here (inl above) = enough.next (meant_of entries t) Back budget at here above
@@ -243,31 +249,41 @@ record HasTrees (text : List ℕ) (reading : Reading) : Type 0 where
 meant_trees : (text : List ℕ) (reading other : Reading) → other ≡ reading → IsMeant text (Ok other) → HasTrees text reading
 meant_trees text reading other e (sets _ h are) = subst (HasTrees text) e (record { read = h; sorted = are })
 
-report_stops : {entries : Entries} → Reads → EnoughFindsNeighbours → AmpleFindsNeighbours → SortedStayInReach → (text : List ℕ) (query : Query) (reading : Reading) (clock : Clock) (o : Outcome) → IsInRange query → IsMeant text (Ok reading) → IsReportOf entries query reading clock o → o.status ≡ 3 → HasAmpleBudget entries text query → ⊥
-report_stops {entries} reads above finds reach text Show reading clock o within meant h e ample = let zero = printed_done h in absurd (omega (arith, e, zero))
-report_stops {entries} reads above finds reach text (NearBy side at budget) reading clock o within meant h e ample =
-    let asks : NearBy side at budget ≡ NearBy ample.side ample.at ample.budget = ample.asks in
-    let same_at : ample.at ≡ at = cc in
-    let same_budget : ample.budget ≡ budget = cc in
-    let same_side : ample.side ≡ side = cc in
+-- what is known of ample budgets
+pub record Budgets : Type 0 where
+  pub above : EnoughFindsNeighbours
+  pub finds : AmpleFindsNeighbours
+  pub walks : Walks
+  pub reach : SortedStayInReach
+
+asks_no_stop : Budgets → (entries : Entries) (query : Query) (reading : Reading) (clock : Clock) (o : Outcome) → IsInRange query → sort_of_tree reading.trees.first ≡ Ok reading.sorts.first → IsReportOf entries query reading clock o → o.status ≡ 3 → IsEnough (meant_of entries reading.trees.first) query → ⊥
+asks_no_stop budgets entries Show reading clock o within sorted h e enough = let zero = printed_done h in absurd (omega (arith, e, zero))
+asks_no_stop budgets entries (NearBy side at budget) reading clock o within sorted h e enough =
+    never_stops (meant_of entries reading.trees.first) side reading.sorts.first.kind clock at.moment.0 budget o h e
+    (never_due budgets.above budgets.finds budgets.reach entries reading.trees.first side reading.sorts.first at.moment.0 budget sorted within.0 enough)
+asks_no_stop budgets entries (Walk from to dir limit budget) reading clock o within sorted h e enough =
+    walk_never_stops budgets.walks budgets.reach entries reading.trees.first reading.sorts.first reading.sorts.first.kind clock (window_token (window_given from to) dir) limit budget o sorted
+    (window_fits budgets.walks.begin from to dir within.0 within.1) h e enough
+asks_no_stop budgets entries (Resume token limit budget) reading clock o within sorted h e enough =
+    walk_never_stops budgets.walks budgets.reach entries reading.trees.first reading.sorts.first reading.sorts.first.kind clock token limit budget o sorted within.0 h e enough
+
+report_stops : {entries : Entries} → Reads → Budgets → (text : List ℕ) (query : Query) (reading : Reading) (clock : Clock) (o : Outcome) → IsInRange query → IsMeant text (Ok reading) → IsReportOf entries query reading clock o → o.status ≡ 3 → HasAmpleBudget entries text query → ⊥
+report_stops {entries} reads budgets text query reading clock o within meant h e ample =
     let has = meant_trees text reading reading refl meant in
     let both : Ok ample.trees ≡ Ok reading.trees = reads.unique text (Ok ample.trees) (Ok reading.trees) ample.read has.read in
     let same : ample.trees ≡ reading.trees = cc in
-    let P : Neighbour → Stamp → ℕ → Trees → Type 0 = λ n s b t. IsEnough (meant_of entries t.first) n s.moment.0 b in
-    let enough : P side at budget reading.trees = subst (λ t. P side at budget t) same (subst (λ b. P side at b ample.trees) same_budget (subst (λ s. P side s ample.budget ample.trees) same_at (subst (λ n. P n ample.at ample.budget ample.trees) same_side ample.ample))) in
-    let tree = meant_of entries reading.trees.first in
-    never_stops tree side reading.sorts.first.kind clock at.moment.0 budget o h e (never_due above finds reach entries reading.trees.first side reading.sorts.first at.moment.0 budget has.sorted.0 within.0 enough)
+    asks_no_stop budgets entries query reading clock o within has.sorted.0 h e (subst (λ (t : Trees). IsEnough (meant_of entries t.first) query) same ample.ample)
 
-reply_stops : {entries : Entries} → Reads → EnoughFindsNeighbours → AmpleFindsNeighbours → SortedStayInReach → (text : List ℕ) (query : Query) (o : Outcome) → IsInRange query → IsReply entries query text o → o.status ≡ 3 → HasAmpleBudget entries text query → ⊥
-reply_stops reads above finds reach text query o within (refused refusal h) e ample = absurd (omega (arith, e))
-reply_stops reads above finds reach text query o within (replied x o_r h report) e ample = report_stops reads above finds reach text query x.reading x.clock o within (reading_kept query text x h) report e ample
+reply_stops : {entries : Entries} → Reads → Budgets → (text : List ℕ) (query : Query) (o : Outcome) → IsInRange query → IsReply entries query text o → o.status ≡ 3 → HasAmpleBudget entries text query → ⊥
+reply_stops reads budgets text query o within (refused refusal h) e ample = absurd (omega (arith, e))
+reply_stops reads budgets text query o within (replied x o_r h report) e ample = report_stops reads budgets text query x.reading x.clock o within (reading_kept query text x h) report e ample
 
-outcome_stops : {entries : Entries} → Reads → WordsAreReadOnce → EnoughFindsNeighbours → AmpleFindsNeighbours → SortedStayInReach → (words : List (List ℕ)) (text : List ℕ) (query : Query) (o : Outcome) → IsOutcome entries words text o → Asks words query → HasAmpleBudget entries text query → o.status ≡ 3 → ⊥
-outcome_stops {entries} reads unique above finds reach words text query o (bad_words fault r) asks ample e = absurd (omega (arith, e))
-outcome_stops {entries} reads unique above finds reach words text query o (asked query_r o_r asks_r r) asks ample e =
+outcome_stops : {entries : Entries} → Reads → WordsAreReadOnce → Budgets → (words : List (List ℕ)) (text : List ℕ) (query : Query) (o : Outcome) → IsOutcome entries words text o → Asks words query → HasAmpleBudget entries text query → o.status ≡ 3 → ⊥
+outcome_stops {entries} reads unique budgets words text query o (bad_words fault r) asks ample e = absurd (omega (arith, e))
+outcome_stops {entries} reads unique budgets words text query o (asked query_r o_r asks_r r) asks ample e =
     let both = unique words (Ok query_r) (Ok query) asks_r asks in
     let same : query ≡ query_r = cc in
-    reply_stops reads above finds reach text query_r o (asks_in_range words query_r asks_r) r e (subst (λ (q : Query). HasAmpleBudget entries text q) same ample)
+    reply_stops reads budgets text query_r o (asks_in_range words query_r asks_r) r e (subst (λ (q : Query). HasAmpleBudget entries text q) same ample)
 
 -- a text that is answered has fewer bytes than are read
 meant_short : Reads → (text : List ℕ) (reading : Reading) → IsMeant text (Ok reading) → length text < ROOM
@@ -290,7 +306,7 @@ read_out reads words (Some text) rest bytes o front is not =
     front.1 ∙ ap Some all
 
 module _ {K : Type 0} (sink : Sink K) (old new : K) (entries : Entries) (words : List (List ℕ)) (left : Option (List ℕ)) (status : ℕ) where
-  -- one write of an outcome of the words, or none for want of memory
+  -- an outcome of the words was written, or nothing for want of memory
   abbrev pub Ends : Type 0
   Ends = IsReported sink old new (IsOutcomeOf entries words left) status ⊎ RanOut old new status
 
@@ -356,9 +372,9 @@ module _ {K : Type 0} (sink : Sink K) (old new : K) (entries : Entries) (words :
       let a = ends_done e (inr (inr three)) in
       read_out reads words left rest bytes a.outcome front a.of_words (λ two_s. let is = a.status_is in absurd (omega (arith, three, is, two_s)))
 
-pub ends_ample : Reads → WordsAreReadOnce → EnoughFindsNeighbours → AmpleFindsNeighbours → SortedStayInReach → {K : Type 0} (sink : Sink K) (old new : K) (entries : Entries) (words : List (List ℕ)) (left : Option (List ℕ)) (status : ℕ) (query : Query) → Asks words query → Ends sink old new entries words left status → IfSome left (λ text. HasAmpleBudget entries text query → status ≢ 3)
-ends_ample reads unique above finds reach sink old new entries words None status query asks e = tt
-ends_ample reads unique above finds reach sink old new entries words (Some text) status query asks e = λ ample three.
+pub ends_ample : Reads → WordsAreReadOnce → Budgets → {K : Type 0} (sink : Sink K) (old new : K) (entries : Entries) (words : List (List ℕ)) (left : Option (List ℕ)) (status : ℕ) (query : Query) → Asks words query → Ends sink old new entries words left status → IfSome left (λ text. HasAmpleBudget entries text query → status ≢ 3)
+ends_ample reads unique budgets sink old new entries words None status query asks e = tt
+ends_ample reads unique budgets sink old new entries words (Some text) status query asks e = λ ample three.
     let a = ends_done sink old new entries words (Some text) status e (inr (inr three)) in
     let same : text ≡ a.of_words.text = a.of_words.told in
-    outcome_stops reads unique above finds reach words a.of_words.text query a.outcome a.of_words.as_asked asks (subst (λ z. HasAmpleBudget entries z query) same ample) (sym a.status_is ∙ three)
+    outcome_stops reads unique budgets words a.of_words.text query a.outcome a.of_words.as_asked asks (subst (λ z. HasAmpleBudget entries z query) same ample) (sym a.status_is ∙ three)

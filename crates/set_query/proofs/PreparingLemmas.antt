@@ -1,7 +1,7 @@
 -- From what is prepared to the outcome.
 use Rattle.std.proofs.Common.{◌≡◌, ◌≤◌, ℕ, ℤ, List, arith, subst, Option, Some, None, option_map, Result, Ok, Err, refl, sym, ap, ◌∙◌, IfSome, true, false, inl, is_ok}
 use Rattle.cert_audit.specs.Lowered.{CanBeReady}
-use Rattle.cert_audit.specs.Settling.{IsFaultOf, IsFirstUnsettled}
+use Rattle.cert_audit.specs.Settling.{AreSettled, IsFaultOf, IsFirstUnsettled}
 use Rattle.cert_audit.specs.declared.lowering.PlanFault.{PlanFault}
 use Rattle.cert_audit.specs.declared.lowering.PlanFault.TheVariants as plans
 use Rattle.ical_rules.specs.declared.outcome.Unsettled.{Unsettled}
@@ -15,40 +15,55 @@ use Rattle.moment_core.specs.declared.line.Dir.{Dir}
 use Rattle.expr_text.specs.Sorted.{HasSort, HaveSorts, HasSecondSort, tree_of_set, trees_of_sorted}
 use Rattle.expr_text.specs.declared.sorted.SortedProgram.{SortedProgram}
 use Rattle.expr_text.specs.declared.sorted.SortedSet.{SortedSet}
-use Rattle.expr_tree.specs.Tree.{Rule, Tree, Trees}
+use Rattle.expr_tree.specs.Tree.{Rule, Tree, Trees, meant_of}
 use Rattle.expr_tree.specs.WellFormed.{IsWellFormed}
 use Rattle.expr_tree.specs.declared.tree.Kind.{Kind}
 use Rattle.moment_core.specs.Clocks.{one_clock}
 use Rattle.moment_core.specs.declared.line.Clock.{Clock}
+use Rattle.moment_core.specs.declared.line.Stamp.{Stamp}
 use Rattle.query_core.specs.Answering.{AnswersOrStops, IsAnswered}
 use Rattle.run_search.specs.Places.{IsAmpleAt}
-use Rattle.query_words.specs.Words.{Asks, SaysBudget, given, by_default}
-use Rattle.query_words.specs.Words as words
+use Rattle.query_words.specs.Words.{Asks, IsStamp, SayEach, SaysBudget, Tells, given, by_default}
+use Rattle.query_words.specs.declared.commands.Key.{Key}
+use Rattle.query_words.specs.declared.commands.Key.TheVariants.{From, To}
 use Rattle.query_words.specs.declared.queries.Query.{Query}
+use Rattle.query_words.specs.declared.queries.Query.TheVariants.{Near as NearBy, Resume, Show, Walk}
 use Rattle.report_text.specs.Refusals.{IsPrintable}
 use Rattle.report_text.specs.declared.refusals.Refusal.{Refusal}
 use Rattle.report_text.specs.declared.refusals.Refusal.TheVariants as refusals
 use Rattle.span_core.specs.declared.answers.Near.{Near}
 use Rattle.span_core.specs.declared.answers.Stop.{Stop}
-use Rattle.stored_pair.specs.Meanings.{Entries, Meaning}
+use Rattle.span_core.specs.declared.answers.Token.{Token}
+use Rattle.stored_pair.specs.Meanings.{Entries}
 use Rattle.span_core.specs.declared.answers.Near.TheVariants as nears
 use Rattle.outside_core.specs.declared.writes.Sink.{Ghosts as Sink}
 use Rattle.set_query.specs.Effects.{IsWritten}
-use Rattle.set_query.specs.Reading.{AreSecondSorts, AreSorts, IsMeant, IsUnsettledFor, OnClock, Reading, Settles, faulty, on_clock, sets_clock, takes, unless_clock, unsettled, words_clock}
-use Rattle.set_query.specs.Preparing.{GivesClock, GivesReport, IsUnready, Prepares, clocked, on, reading_of, sort_of_set, sorts_of, unready_of}
+use Rattle.set_query.specs.Reading.{AreSecondSorts, AreSettledFor, AreSorts, IsMeant, IsUnsettledFor, OnClock, Reading, Settles, faulty, on_clock, sets_clock, settled, takes, unless_clock, unsettled, words_clock}
+use Rattle.set_query.specs.Preparing.{GivesClock, GivesReport, GivesWalk, IsUnready, IsUnsettledIn, Prepares, clocked, on, reading_of, sort_of_set, sorts_of, unready_of}
 use Rattle.set_query.specs.declared.preparing.Report.{Report}
 use Rattle.set_query.specs.declared.preparing.Unready.{Unready}
 use Rattle.set_query.specs.declared.preparing.Unready.TheVariants as unready
 use Rattle.set_query.specs.Refusals.{text_refusal}
-use Rattle.set_query.specs.Report.{Outcome, IsInRange, IsPrinted, IsSearched, answered, answers, printed, refused, replied, stops, told}
+use Rattle.set_query.specs.Report.{Outcome, IsGivenInRange, IsInRange, IsPrinted, IsReportOf, IsSearched, IsWalkOf, answered, answers, printed, refused, replied, stops, told}
 
+-- what good words say is in its range
 budget_in_range : (later : List (List ℕ)) (n : ℕ) → SaysBudget later n → 1 ≤ n
 budget_in_range later n (given m s) = s.is.in_range.0
 budget_in_range later n (by_default none) = omega arith
 
+given_in_range : (later : List (List ℕ)) (key : Key) (at : Option Stamp) → Tells later key IsStamp at → IsGivenInRange at
+given_in_range later key None none = tt
+given_in_range later key (Some at) says = says.is.in_range
+
+says_in_range : (later : List (List ℕ)) (query : Query) → SayEach later query → IsInRange query
+says_in_range later Show says = tt
+says_in_range later (NearBy side at budget) (says, budgets) = (says.is.in_range, budget_in_range later budget budgets)
+says_in_range later (Walk from to dir limit budget) (low, high, dirs, limits, budgets) =
+    (given_in_range later From from low, given_in_range later To to high, budget_in_range later budget budgets)
+says_in_range later (Resume token limit budget) (says, limits, budgets) = (says.is.1, budget_in_range later budget budgets)
+
 pub asks_in_range : (asked : List (List ℕ)) (query : Query) → Asks asked query → IsInRange query
-asks_in_range asked query (words.near side later at budget e good says said) = (says.is.in_range, budget_in_range later budget said)
-asks_in_range asked query (words.show later e good) = tt
+asks_in_range asked query asks = says_in_range asks.later query asks.says
 
 -- a program's sorts are those of its trees
 second_sorts : (o : Option SortedSet) → HasSecondSort o → AreSecondSorts (option_map tree_of_set o) (option_map sort_of_set o)
@@ -123,3 +138,16 @@ no_plan query x t (plans.Settle passed at) asked working first =
     let u : Unsettled = record { passed = passed; at = at } in
     (working u first, unsettled u (asked u first))
 no_plan query x t plans.Memory asked working first = tt
+
+-- the same of a walk
+pub no_walk : (t : Tree Rule) (fault : PlanFault) → ((u : Unsettled) → IsFirstUnsettled t u → IsWorkingMoment u.at.0) → IsFaultOf t fault → IsUnready (IsUnsettledIn t) (unready_of fault)
+no_walk t (plans.Settle passed at) working first = let u : Unsettled = record { passed = passed; at = at } in (working u first, (u, first, refl))
+no_walk t plans.Memory working first = tt
+
+-- a walk is the report of a query that asks for it
+pub walk_is_report : (entries : Entries) (query : Query) (reading : Reading) (clock : Clock) (t : Token) (limit budget : ℕ) (r : Result Report Unready) → (AreSettled reading.trees.first → AreSettledFor query reading.trees) → ((u : Unsettled) → IsFirstUnsettled reading.trees.first u → IsUnsettledFor query reading.trees u)
+    → ((o : Outcome) → IsWalkOf (meant_of entries reading.trees.first) reading.sorts.first.kind clock t limit budget o → IsReportOf entries query reading clock o) → GivesWalk entries reading clock t limit budget r → GivesReport entries query reading clock r
+walk_is_report entries query reading clock t limit budget (Ok report) are first asks h = (settled (are h.0), λ o reports. asks o (h.1 o reports))
+walk_is_report entries query reading clock t limit budget (Err (unready.Refused refusal)) are first asks (printable, (u, is, e)) =
+    (printable, subst (λ (x : Refusal). Settles query (on reading clock) (Err x)) (sym e) (unsettled u (first u is)))
+walk_is_report entries query reading clock t limit budget (Err unready.Memory) are first asks h = tt

@@ -42,7 +42,8 @@ IsDone status = (status ≡ 0) ⊎ (status ≡ 2) ⊎ (status ≡ 3)
 abbrev pub RanOut : {K : Type 0} → K → K → ℕ → Type 0
 RanOut old new status = (status ≡ 6) × (new ≡ old)
 
--- one write of the bytes of an outcome: its status, or 5 and the first of the bytes
+-- what writing the bytes of an outcome leaves: its status and all of the bytes, or 5 and the
+-- first of them
 pub record IsWritten {K : Type 0} (sink : Sink K) (old new : K) (outcome : Outcome)
     (status : ℕ) : Type 0 where
   pub counted : sink.faults old ≤ sink.faults new
@@ -51,7 +52,7 @@ pub record IsWritten {K : Type 0} (sink : Sink K) (old new : K) (outcome : Outco
   pub part : status ≡ 5 → (n : ℕ) × HasPut sink old new (take n outcome.bytes)
   pub failed : status ≡ 5 → WriteFailed sink old new
 
--- one write of an outcome that is asked
+-- what writing an outcome that is asked leaves
 pub record IsReported {K : Type 0} (sink : Sink K) (old new : K) (Is : Outcome → Type 0)
     (status : ℕ) : Type 0 where
   pub outcome : Outcome

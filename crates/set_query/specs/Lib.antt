@@ -1,4 +1,5 @@
 pub mod Effects
+pub mod Fitting
 pub mod Laws
 pub mod Preparing
 pub mod Reading

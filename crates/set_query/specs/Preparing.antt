@@ -1,14 +1,18 @@
 -- What is put together before anything is written.
 use Rattle.std.specs.Prelude.{◌≡◌, ℕ, List, Result, Ok, Err, option_map}
+use Rattle.cert_audit.specs.Settling.{AreSettled, IsFirstUnsettled}
 use Rattle.cert_audit.specs.declared.lowering.PlanFault.{PlanFault}
 use Rattle.cert_audit.specs.declared.lowering.PlanFault.TheVariants as plans
 use Rattle.expr_text.specs.Sorted.{trees_of_sorted}
 use Rattle.expr_text.specs.declared.sorted.SortedProgram.{SortedProgram}
 use Rattle.expr_text.specs.declared.sorted.SortedSet.{SortedSet}
+use Rattle.expr_tree.specs.Tree.{Rule, Tree, meant_of}
 use Rattle.expr_tree.specs.declared.sorting.Sort.{Sort}
+use Rattle.ical_rules.specs.declared.outcome.Unsettled.{Unsettled}
 use Rattle.moment_core.specs.declared.line.Clock.{Clock}
 use Rattle.plan_core.specs.Plans.{meant_of_plan}
 use Rattle.query_words.specs.declared.queries.Query.{Query}
+use Rattle.span_core.specs.declared.answers.Token.{Token}
 use Rattle.stored_pair.specs.Meanings.{Entries}
 use Rattle.report_text.specs.Refusals.{IsPrintable}
 use Rattle.report_text.specs.declared.refusals.Refusal.{Refusal}
@@ -16,10 +20,11 @@ use Rattle.report_text.specs.declared.refusals.Refusal.TheVariants as refusals
 use Rattle.set_query.specs.declared.preparing.Report.{Report}
 use Rattle.set_query.specs.declared.preparing.Report.TheVariants as reports
 use Rattle.set_query.specs.declared.searching.Search.{Search}
+use Rattle.set_query.specs.declared.walking.Walking.{Walking}
 use Rattle.set_query.specs.declared.preparing.Unready.{Unready}
 use Rattle.set_query.specs.declared.preparing.Unready.TheVariants as unready
 use Rattle.set_query.specs.Reading.{Fits, IsMeant, Reading, OnClock, Settles, Sorts}
-use Rattle.set_query.specs.Report.{IsReply, IsAskedBy, IsReportOf, Outcome, refused_by}
+use Rattle.set_query.specs.Report.{IsReply, IsAskedBy, IsReportOf, IsWalkOf, Outcome, refused_by}
 
 abbrev pub sort_of_set : SortedSet → Sort
 sort_of_set s = s.sort
@@ -57,20 +62,43 @@ GivesClock query reading r = Fits query reading (clocked reading r)
 abbrev pub Finds : Search → Outcome → Type 0
 Finds s = IsAskedBy (meant_of_plan s.plan) s.side s.kind s.clock s.at.0 s.budget
 
+-- the outcomes that a walk may have
+abbrev pub Walks : Walking → Outcome → Type 0
+Walks w = IsWalkOf (meant_of_plan w.plan) w.kind w.clock w.from w.limit w.budget
+
 -- the outcomes that a report may have
 abbrev pub Reports : Report → Outcome → Type 0
 Reports (reports.Printed v) o = o ≡ record { status = 0; bytes = v.items }
 Reports (reports.Near search) o = Finds search o
+Reports (reports.Walk walking) o = Walks walking o
+
+-- the refusal of the first count of a tree that isn't settled
+abbrev pub IsUnsettledIn : Tree Rule → Refusal → Type 0
+IsUnsettledIn t refusal =
+    (u : Unsettled) × IsFirstUnsettled t u × (refusal ≡ refusals.Settle u.passed u.at)
 
 abbrev pub on : Reading → Clock → OnClock
 on reading clock = record { reading = reading; clock = clock }
 
--- a report of the command over a reading whose counts are settled, or the refusal of the first one that isn't
+-- a report of the command over a reading whose counts are settled, or the refusal of the first one
+-- that isn't
 abbrev pub GivesReport : Entries → Query → Reading → Clock → Result Report Unready → Type 0
 GivesReport entries query reading clock (Ok report) =
     Settles query (on reading clock) (Ok (on reading clock))
     × ((o : Outcome) → Reports report o → IsReportOf entries query reading clock o)
-GivesReport entries query reading clock (Err e) = IsUnready (λ refusal. Settles query (on reading clock) (Err refusal)) e
+GivesReport entries query reading clock (Err e) =
+    IsUnready (λ refusal. Settles query (on reading clock) (Err refusal)) e
+
+-- a walk over the first tree of a reading whose counts are settled, or the refusal of the first one
+-- that isn't
+abbrev pub GivesWalk : Entries → Reading → Clock → Token → ℕ → ℕ → Result Report Unready → Type 0
+GivesWalk entries reading clock t limit budget (Ok report) =
+    AreSettled reading.trees.first
+    × ((o : Outcome) → Reports report o
+    → IsWalkOf (meant_of entries reading.trees.first) reading.sorts.first.kind clock t limit
+    budget o)
+GivesWalk entries reading clock t limit budget (Err e) =
+    IsUnready (IsUnsettledIn reading.trees.first) e
 
 -- a report that answers the query, or its refusal
 abbrev pub Prepares : Entries → Query → List ℕ → Result Report Unready → Type 0

@@ -11,8 +11,9 @@ use Rattle.phases.specs.Phases.{By, Then}
 use Rattle.moment_core.specs.Clocks.{clock_of_stamp, one_clock}
 use Rattle.moment_core.specs.declared.line.Clock.{Clock}
 use Rattle.moment_core.specs.declared.line.Clock.TheVariants.{Any}
+use Rattle.moment_core.specs.declared.line.Stamp.{Stamp}
 use Rattle.query_words.specs.declared.queries.Query.{Query}
-use Rattle.query_words.specs.declared.queries.Query.TheVariants.{Near as NearBy, Show}
+use Rattle.query_words.specs.declared.queries.Query.TheVariants.{Near as NearBy, Resume, Show, Walk}
 use Rattle.report_text.specs.declared.refusals.Refusal.{Refusal}
 use Rattle.report_text.specs.declared.refusals.Refusal.TheVariants as refusals
 use Rattle.set_query.specs.Refusals.{text_refusal}
@@ -46,19 +47,27 @@ pub data IsMeant (text : List ℕ) : Result Reading Refusal → Type 0 where
 abbrev pub takes : Query → Option (Tree Rule) → Bool
 takes Show second = true
 takes (NearBy side at budget) second = is_none second
+takes (Walk from to dir limit budget) second = is_none second
+takes (Resume token limit budget) second = is_none second
 
 abbrev pub unless_two : Query → Reading → Result Reading Refusal
 unless_two query reading = if takes query reading.trees.second then Ok reading else Err refusals.Two
+
+-- the one of two clocks, any giving way
+abbrev pub either_clock : Clock → Clock → Clock
+either_clock Any b = b
+either_clock a b = a
+
+abbrev pub given_clock : Option Stamp → Clock
+given_clock None = Any
+given_clock (Some at) = clock_of_stamp at
 
 -- the words' clock, any where they give no moment
 abbrev pub words_clock : Query → Clock
 words_clock Show = Any
 words_clock (NearBy side at budget) = clock_of_stamp at
-
--- the one clock of the expressions, any giving way
-abbrev pub either_clock : Clock → Clock → Clock
-either_clock Any b = b
-either_clock a b = a
+words_clock (Walk from to dir limit budget) = either_clock (given_clock from) (given_clock to)
+words_clock (Resume token limit budget) = Any
 
 abbrev pub second_clock : Option Sort → Clock
 second_clock None = Any
@@ -80,23 +89,30 @@ abbrev pub unless_clock : Query → Reading → Result OnClock Refusal
 unless_clock query reading =
     on_clock reading (one_clock (sets_clock reading.sorts) (words_clock query))
 
--- the counts of the set that a command searches are settled, or its first one that isn't; `show` searches none
+-- the counts of the set that a command searches are settled, or its first one that isn't; `show`
+-- searches none
 abbrev pub AreSettledFor : Query → Trees → Type 0
 AreSettledFor Show trees = Unit {0}
 AreSettledFor (NearBy side at budget) trees = AreSettled trees.first
+AreSettledFor (Walk from to dir limit budget) trees = AreSettled trees.first
+AreSettledFor (Resume token limit budget) trees = AreSettled trees.first
 
 abbrev pub IsUnsettledFor : Query → Trees → Unsettled → Type 0
 IsUnsettledFor Show trees u = ⊥
 IsUnsettledFor (NearBy side at budget) trees u = IsFirstUnsettled trees.first u
+IsUnsettledFor (Walk from to dir limit budget) trees u = IsFirstUnsettled trees.first u
+IsUnsettledFor (Resume token limit budget) trees u = IsFirstUnsettled trees.first u
 
 pub data Settles (query : Query) (x : OnClock) : Result OnClock Refusal → Type 0 where
   settled : AreSettledFor query x.reading.trees → Settles query x (Ok x)
-  unsettled : (u : Unsettled) → IsUnsettledFor query x.reading.trees u → Settles query x (Err (refusals.Settle u.passed u.at))
+  unsettled : (u : Unsettled) → IsUnsettledFor query x.reading.trees u
+      → Settles query x (Err (refusals.Settle u.passed u.at))
 
 -- the number of expressions, and the clocks
 abbrev pub Fits : Query → Reading → Result OnClock Refusal → Type 0
 Fits query = Then (By (unless_two query)) (By (unless_clock query))
 
--- The phases behind the words: the text's own, the number of expressions, the clocks, and the counts.
+-- The phases behind the words: the text's own, the number of expressions, the clocks, and the
+-- counts.
 abbrev pub Passes : Query → List ℕ → Result OnClock Refusal → Type 0
 Passes query = Then IsMeant (Then (Fits query) (Settles query))

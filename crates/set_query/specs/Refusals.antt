@@ -1,6 +1,7 @@
 -- What refuses words or a text.
 use Rattle.expr_text.specs.Fault.{Fault}
 use Rattle.expr_text.specs.Fault as texts
+use Rattle.rrule_text.specs.Fault as rrules
 use Rattle.query_words.specs.declared.queries.WordsFault.{WordsFault}
 use Rattle.query_words.specs.declared.queries.WordsFault.TheVariants as words
 use Rattle.report_text.specs.declared.refusals.Refusal.{Refusal}
@@ -18,4 +19,7 @@ text_refusal texts.Unbuilt = refusals.Unbuilt
 text_refusal texts.Syntax = refusals.Syntax
 text_refusal (texts.Moment byte) = refusals.Moment byte
 text_refusal (texts.Rule fault) = refusals.Rule fault
+text_refusal (texts.Rrule rrules.Syntax) = refusals.RruleSyntax
+text_refusal (texts.Rrule (rrules.Repeated part)) = refusals.RruleRepeated part
+text_refusal (texts.Rrule (rrules.Rule fault)) = refusals.Rrule fault
 text_refusal (texts.Sort fault) = refusals.Sort fault

@@ -6,6 +6,8 @@ use cert_audit::{settle_laws, tree_frame_laws};
 use expr_text::reading_laws;
 use query_core::{endless_laws, neighbour_laws};
 use query_words::words_laws;
+use walk_core::step_laws;
+use walk_report::report_laws;
 
 /// Words have an outcome over each text, and one alone but for stops; a refusal is alone.
 pub fn outcome_laws()
@@ -19,4 +21,6 @@ pub fn outcome_laws()
     settle_laws();
     endless_laws();
     neighbour_laws();
+    step_laws();
+    report_laws();
 }

@@ -11,6 +11,7 @@ mod reading;
 mod refusals;
 mod reporting;
 mod searching;
+mod walking;
 mod writing;
 
 use moment_core::Steps;

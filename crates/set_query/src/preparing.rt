@@ -1,7 +1,10 @@
 //! What is put together before anything is written: all that can be refused, and all that takes
 //! memory.
 
-ghost use Rattle.std.specs.Prelude.{◌≡◌, IfErr, IfOk};
+ghost use Rattle.std.specs.Prelude.{◌≡◌, ◌≤◌, IfErr, IfOk};
+ghost use Rattle.moment_core.specs.Line.{IsCalendarMoment, IsCalendarPosition};
+ghost use Rattle.span_core.specs.Tokens.{IsFit};
+ghost use Rattle.walk_core.specs.Tokens.{window_token};
 ghost use Rattle.expr_tree.specs.WellFormed.{AreWellFormed};
 ghost use Rattle.expr_print.specs.Printing.{print_program};
 ghost use Rattle.expr_text.specs.Sorted.{trees_of_sorted, HaveSorts};
@@ -9,21 +12,24 @@ ghost use Rattle.stored_pair.specs.Names.{entries_of};
 ghost use Rattle.report_text.specs.Lines.{with_line_feed};
 ghost use Rattle.report_text.specs.Refusals.{IsPrintable};
 ghost use Rattle.set_query.specs.declared.preparing.Unready.TheVariants.{Memory};
-ghost use Rattle.set_query.specs.Reading.{either_clock, sets_clock, takes, words_clock};
-ghost use Rattle.set_query.specs.Preparing.{reading_of, sorts_of, unready_of, GivesClock, GivesMeant, GivesReport, Prepares};
-ghost use Rattle.set_query.specs.Report.{IsInRange};
+ghost use Rattle.set_query.specs.Reading.{either_clock, given_clock, sets_clock, takes, words_clock};
+ghost use Rattle.set_query.specs.Preparing.{reading_of, sorts_of, unready_of, GivesClock, GivesMeant, GivesReport, GivesWalk, Prepares};
+ghost use Rattle.set_query.specs.Report.{IsGivenInRange, IsInRange, end_of, window_given};
 
 use crate::refusals::text_refusal;
 use crate::searching::Search;
+use crate::walking::Walking;
 use cert_audit::{PlanFault, settle_laws};
 use expr_print::write_program;
 use expr_text::{SortedProgram, read_sorted};
-use moment_core::Clock;
+use moment_core::{Clock, Dir, HIGH, LOW, Moment, Pos, Stamp, Window, of};
 use plan_core::Plan;
 use query_words::Query;
 use report_text::{LINE_FEED, Refusal};
+use span_core::Token;
 use std::alloc::{AllocError, Global};
 use stored_pair::Book;
+use walk_core::window_token;
 
 /// A report that only has to be written.
 #[derive(Drop)]
@@ -32,6 +38,8 @@ pub(crate) enum Report<'b> {
     Printed(Vec<u8>),
     /// What is asked of a set by a moment.
     Near(Search<'b>),
+    /// The items of a set.
+    Walk(Walking<'b>),
 }
 
 /// Why there is no report.
@@ -70,17 +78,9 @@ fn takes(query: Query, program: &SortedProgram) -> bool
 {
     match query {
         Query::Near { .. } => program.second.is_none(),
+        Query::Walk { .. } => program.second.is_none(),
+        Query::Resume { .. } => program.second.is_none(),
         Query::Show => true,
-    }
-}
-
-/// The clock of the words' moments, any where they give none.
-fn words_clock(query: Query) -> Clock
-    ensures { result ≡ words_clock query }
-{
-    match query {
-        Query::Near { at, .. } => at.clock(),
-        Query::Show => Clock::Any,
     }
 }
 
@@ -90,6 +90,26 @@ fn either_clock(a: Clock, b: Clock) -> Clock
     match a {
         Clock::Any => b,
         Clock::Floating | Clock::Absolute => a,
+    }
+}
+
+fn given_clock(given: Option<Stamp>) -> Clock
+    ensures { result ≡ given_clock given }
+{
+    match given {
+        Some(at) => at.clock(),
+        None => Clock::Any,
+    }
+}
+
+/// The clock of the words' moments, any where they give none.
+fn words_clock(query: Query) -> Clock
+    ensures { result ≡ words_clock query }
+{
+    match query {
+        Query::Near { at, .. } => at.clock(),
+        Query::Walk { from, to, .. } => either_clock(given_clock(from), given_clock(to)),
+        Query::Resume { .. } | Query::Show => Clock::Any,
     }
 }
 
@@ -140,8 +160,66 @@ fn printed_line(alloc: Global, program: SortedProgram) -> Result<Vec<u8>, AllocE
     Ok(line)
 }
 
-/// The report of a query over a program that it takes, with all memory that it takes; or the refusal of the first count in the set
-/// to be searched that isn't settled.
+/// The position of the moment, or of the default where none is given.
+fn end_of(default: i64, given: Option<Stamp>) -> Pos
+    requires default { IsCalendarMoment default }
+    requires given { IsGivenInRange given }
+    ensures value { result ≡ end_of default given }
+    ensures range { IsCalendarPosition result.0 }
+{
+    match given {
+        Some(at) => of(at.moment),
+        None => of(Moment(default)),
+    }
+}
+
+/// The token at which a walk between the moments begins.
+fn first_token(from: Option<Stamp>, to: Option<Stamp>, dir: Dir) -> Token
+    requires from { IsGivenInRange from }
+    requires to { IsGivenInRange to }
+    ensures value { result ≡ window_token (window_given from to) dir }
+    ensures fit { IsFit result }
+{
+    let w = Window {
+        lo: end_of(LOW, from),
+        hi: end_of(HIGH, to),
+    };
+    window_token(w, dir)
+}
+
+/// A walk over the first set of a program from a token on.
+fn walk_over<'b>(
+    alloc: Global,
+    program: &SortedProgram,
+    clock: Clock,
+    from: Token,
+    limit: u64,
+    budget: u64,
+    book: &'b Book,
+) -> Result<Report<'b>, Unready>
+    requires fit { IsFit from }
+    requires budget { 1 ≤ budget }
+    requires well_formed { AreWellFormed (trees_of_sorted program.now) }
+    requires sorts { HaveSorts program.now }
+    ensures { GivesWalk (entries_of book.now) (reading_of program.now) clock from limit budget
+        result }
+{
+    settle_laws();
+    match Plan::make(alloc, &program.first.set, book) {
+        Ok(plan) => Ok(Report::Walk(Walking {
+            plan,
+            from,
+            kind: program.first.sort.kind,
+            clock,
+            limit,
+            budget,
+        })),
+        Err(fault) => Err(why_unready(fault)),
+    }
+}
+
+/// The report of a query over a program that it takes, with all memory that it takes; or the
+/// refusal of the first count in the set to be searched that isn't settled.
 fn make_report<'b>(
     alloc: Global,
     query: Query,
@@ -167,6 +245,21 @@ fn make_report<'b>(
             })),
             Err(fault) => Err(why_unready(fault)),
         },
+        Query::Walk {
+            from,
+            to,
+            dir,
+            limit,
+            budget,
+        } => {
+            let first = first_token(from, to, dir);
+            walk_over(alloc, &program, clock, first, limit, budget, book)
+        }
+        Query::Resume {
+            token,
+            limit,
+            budget,
+        } => { walk_over(alloc, &program, clock, token, limit, budget, book) }
         Query::Show => Ok(Report::Printed(printed_line(alloc, program)?)),
     }
 }

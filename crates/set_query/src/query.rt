@@ -1,4 +1,4 @@
-//! The top call: words and a text in, a line and a status out.
+//! The top call: words and a text in, lines and a status out.
 
 ghost use Rattle.std.specs.Prelude.{◌≡◌, ◌≢◌, ◌⊎◌, ◌≤◌, map, IfSome};
 ghost use Rattle.std.specs.String.{string_bytes};
@@ -23,6 +23,8 @@ use query_words::{Query, read_words, words_laws};
 use std::alloc::Global;
 use std::sync::ledger::Ledger;
 use stored_pair::Book;
+use walk_core::step_laws;
+use walk_report::report_laws;
 
 /// Answers the query over the text; the status is 6, and nothing is written, where no memory is
 /// left.
@@ -47,12 +49,14 @@ fn reply<K: Sink, L: Ledger>(
     }
 }
 
-/// Answers a query: reads the words, then the source, and writes one line by one call.
+/// Answers a query: reads the words, then the source, and writes each line by one call.
 ///
-/// The words are `show`, or `next`, `previous`, `current`, `closest` or `contains` with `at=M` and
-/// perhaps `budget=N`. Other words are refused with status 2, and nothing is read: by `refused words`
-/// and the number of the first bad word, or by `refused unbuilt` where the first word is a command
-/// that isn't answered yet. Otherwise the source is read to its end, or 65,537 bytes.
+/// The words are `show`; or `next`, `previous`, `current`, `closest` or `contains` with `at=M`; or
+/// `walk`, perhaps with `from=M`, `to=M`, `dir=fore` or `dir=back`; or `resume` with `token=T`. All
+/// but `show` may have `budget=N`, and the last two `limit=L`. Other words are refused with status
+/// 2, and nothing is read: by `refused words` and the number of the first bad word, or by `refused
+/// unbuilt` where the first word is a command that isn't answered yet. Otherwise the source is read
+/// to its end, or 65,537 bytes.
 ///
 /// A text of the expression language is refused by the line of its first fault, with status 2. In
 /// the order in which they are looked for:
@@ -70,20 +74,27 @@ fn reply<K: Sink, L: Ledger>(
 ///
 /// Under `show` another text is answered by its printed form, with status 0.
 ///
-/// Under the commands with a moment two expressions are refused by `refused two`, an expression on
-/// the other clock than M's by `refused clock`, and one with a rule whose COUNT isn't settled by
-/// `refused settle`, with status 2: its last member isn't among the first 20,000,000 candidates,
-/// whose number and last place follow.
+/// Under the other commands two expressions are refused by `refused two`, an expression on another
+/// clock than M's by `refused clock`, and one with a rule whose COUNT isn't settled by `refused
+/// settle`, with status 2: its last member isn't among the first 20,000,000 candidates, whose
+/// number and last place follow.
 ///
-/// Otherwise the line tells, with status 0, the first run that begins after M (`next`), the last run
-/// that ends before it (`previous`), the run that holds M or else the previous one (`current`), or the
-/// run that holds M or else the nearer neighbour (`closest`): its moment or its bounds, `none` and the
-/// window after which the set repeats without one, or `edge` where there is none in the calendar
-/// range and nothing is said past it. Under `contains` it is `yes` or `no`. It is `budget`, the
-/// position and the node, with status 3, where a search stops because it passed N candidates or more.
+/// Otherwise the line tells, with status 0, the first run that begins after M (`next`), the last
+/// run that ends before it (`previous`), the run that holds M or else the previous one (`current`),
+/// or the run that holds M or else the nearer neighbour (`closest`): its moment or its bounds,
+/// `none` and the window after which the set repeats without one, or `edge` where there is none in
+/// the calendar range and nothing is said past it. Under `contains` it is `yes` or `no`. It is
+/// `budget`, the position and the node, with status 3, where a search stops because it passed N
+/// candidates or more.
 ///
-/// The status is 4 where a read failed, 5 where the write failed, and 6 where no memory was left
-/// before the write.
+/// Under `walk` and `resume` the lines tell the runs in the window from M to M, cut at its ends, in
+/// the direction, or those that are left from the token, each as it is found. The last line is
+/// `more` and a token where L runs were written; else `none` and a window, `edge`, or `end` where
+/// the window's end was reached; or, with status 3, `budget` and a token where a search stops. From
+/// the token `resume` goes on.
+///
+/// The status is 4 where a read failed, 5 where a write failed, and 6 where no memory was left
+/// before the first write.
 pub fn run<S: Source, K: Sink, L: Ledger>(
     alloc: Global,
     words: &[String],
@@ -98,7 +109,7 @@ pub fn run<S: Source, K: Sink, L: Ledger>(
     ensures complete { ¬ (ReadFailed S.Source source.old source.new)
         → ¬ (WriteFailed K.Sink sink.old sink.new) → IsDone result ⊎ (result ≡ 6) }
 
-    // Then the status and the line are those of the words and the text.
+    // Then the status and the lines are those of the words and the text.
     ensures done { IsDone result
         → Answers K.Sink sink.old sink.new (entries_of book.now)
         (map string_bytes words.now) (S.left source.old) result }
@@ -120,7 +131,7 @@ pub fn run<S: Source, K: Sink, L: Ledger>(
     ensures source_fault { result ≡ 4
         → ReadFailed S.Source source.old source.new × (sink.new ≡ sink.old) }
 
-    // After a fault of the sink it took the first bytes of the line.
+    // After a fault of the sink it took the first bytes of the lines.
     ensures sink_fault { result ≡ 5 → WriteFailed K.Sink sink.old sink.new
         × BreaksOff K.Sink sink.old sink.new (entries_of book.now)
         (map string_bytes words.now) (S.left source.old) }
@@ -137,6 +148,8 @@ pub fn run<S: Source, K: Sink, L: Ledger>(
     budget_laws();
     reading_laws();
     tree_laws();
+    step_laws();
+    report_laws();
     match read_words(words) {
         Ok(query) => match read_text(alloc, source) {
             Ok(text) => reply(alloc, query, &text, book, sink, steps),

@@ -12,6 +12,7 @@ use expr_text::TextFault;
 use outside_core::Sink;
 use query_words::WordsFault;
 use report_text::{Refusal, line_refusal};
+use rrule_text::RruleFault;
 
 /// The refusal of words with this fault.
 pub(crate) fn words_refusal(fault: WordsFault) -> Refusal
@@ -36,8 +37,11 @@ pub(crate) fn text_refusal(fault: TextFault) -> Option<Refusal>
         TextFault::Syntax => Some(Refusal::Syntax),
         TextFault::Moment { byte } => Some(Refusal::Moment(byte)),
         TextFault::Rule(fault) => Some(Refusal::Rule(fault)),
+        TextFault::Rrule(RruleFault::Syntax) => Some(Refusal::RruleSyntax),
+        TextFault::Rrule(RruleFault::Repeated(part)) => Some(Refusal::RruleRepeated(part)),
+        TextFault::Rrule(RruleFault::Rule(fault)) => Some(Refusal::Rrule(fault)),
         TextFault::Sort(fault) => Some(Refusal::Sort(fault)),
-        TextFault::Memory => None,
+        TextFault::Rrule(RruleFault::Memory) | TextFault::Memory => None,
     }
 }
 

@@ -3,11 +3,12 @@
 ghost use Rattle.std.specs.Prelude.{◌≡◌, ◌<◌, ◌≤◌};
 ghost use Rattle.set_query.specs.Effects.{IsReported, IsWritten};
 ghost use Rattle.span_core.specs.Answers.{IsCalendarNear};
-ghost use Rattle.set_query.specs.Preparing.{Finds, Reports};
+ghost use Rattle.set_query.specs.Preparing.{Finds, Reports, Walks};
 ghost use Rattle.set_query.specs.Report.{status_of, told};
 
 use crate::preparing::Report;
 use crate::searching::Search;
+use crate::walking::Walking;
 use crate::writing::put;
 use expr_tree::Kind;
 use moment_core::{Clock, Steps};
@@ -16,6 +17,8 @@ use query_words::Neighbour;
 use report_text::{line_near, line_test};
 use span_core::Near;
 use std::sync::ledger::Ledger;
+use walk_core::Walk;
+use walk_report::write_walk;
 
 fn status_of(near: Near) -> u8
     ensures value { result ≡ status_of near }
@@ -71,6 +74,20 @@ fn write_asked<K: Sink, L: Ledger>(
     }
 }
 
+/// Writes the lines of a walk, each by one write.
+fn write_items<K: Sink, L: Ledger>(
+    walking: &mut Walking<'_>,
+    sink: &mut K,
+    steps: &mut Steps<L>,
+) -> u8
+    ensures outcome { IsReported K.Sink sink.old sink.new (Walks walking.old) result }
+    ensures steps { steps.old ≤ steps.new }
+{
+    let (kind, clock, limit, budget) = (walking.kind, walking.clock, walking.limit, walking.budget);
+    let mut walk = Walk::resume(&mut walking.plan, walking.from);
+    write_walk(&mut walk, kind, clock, limit, budget, sink, steps)
+}
+
 /// Writes the report. It takes no memory.
 pub(crate) fn write_report<K: Sink, L: Ledger>(
     report: &mut Report<'_>,
@@ -83,5 +100,6 @@ pub(crate) fn write_report<K: Sink, L: Ledger>(
     match report {
         Report::Printed(text) => put(sink, text, 0),
         Report::Near(search) => write_asked(search, sink, steps),
+        Report::Walk(walking) => write_items(walking, sink, steps),
     }
 }

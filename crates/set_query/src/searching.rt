@@ -8,7 +8,8 @@ use moment_core::{Clock, Moment};
 use plan_core::Plan;
 use query_words::Neighbour;
 
-/// What a command asks of a set by a moment of the calendar range, with a budget, for a line on a clock.
+/// What a command asks of a set by a moment of the calendar range, with a budget, for a line on a
+/// clock.
 #[derive(Drop)]
 pub(crate) struct Search<'b> {
     pub(crate) plan: Plan<'b>,

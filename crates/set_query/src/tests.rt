@@ -15,7 +15,10 @@ use std::test::Fail;
 use stored_pair::Book;
 
 mod neighbours;
+mod rfc_examples;
+mod rrules;
 mod rules;
+mod walks;
 
 fn words_of(alloc: Global, line: &str) -> Result<Vec<String>, AllocError> {
     let mut words = Vec::new(alloc);
@@ -291,7 +294,7 @@ fn the_next_day_of_a_month_is_written_or_edge_or_a_stop_or_a_refusal(
         ("next", "monthly(days=29)", 2, "refused words 1\n"),
         ("", "monthly(days=29)", 2, "refused words 0\n"),
         ("--help", "monthly(days=29)", 2, "refused words 0\n"),
-        ("walk", "monthly(days=29)", 2, "refused unbuilt\n"),
+        ("min", "monthly(days=29)", 2, "refused unbuilt\n"),
     ];
     let alloc = rt.alloc();
     for (line, text, status, written) in ROWS {
@@ -431,11 +434,6 @@ fn texts_are_shown_or_refused(rt: HostRuntime) -> Result<(), Fail> {
         ("", 2, "refused syntax\n"),
         ("daily( )", 0, "daily()\n"),
         // the calls that aren't built
-        (
-            "rrule(\"FREQ=DAILY\", 2024-01-01T00:00:00)",
-            2,
-            "refused unbuilt\n",
-        ),
         ("event(\"fortnight\")", 2, "refused unbuilt\n"),
         ("during(empty(), 60)", 2, "refused unbuilt\n"),
         ("pairs(empty(), empty())", 2, "refused unbuilt\n"),
@@ -488,6 +486,19 @@ fn joined(alloc: Global, pieces: &[&str]) -> Result<String, AllocError> {
         text.push_str(piece)?;
     }
     Ok(text)
+}
+
+/// `next` at the moment over the text ends with this status and writes this line.
+fn nexts(
+    rt: &impl Abort,
+    alloc: Global,
+    at: &str,
+    text: &str,
+    status: u8,
+    line: &str,
+) -> Result<(), AllocError> {
+    let next = joined(alloc, &["next at=", at])?;
+    is_answered(rt, alloc, (&next, text.as_bytes()), status, line)
 }
 
 /// Unions in brackets, down so many levels.

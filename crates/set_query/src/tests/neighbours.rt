@@ -112,7 +112,7 @@ fn what_cannot_be_asked_by_a_moment_is_refused(rt: HostRuntime) -> Result<(), Fa
             "empty()",
             "refused words 2\n",
         ),
-        ("walk", "empty()", "refused unbuilt\n"),
+        ("load", "empty()", "refused unbuilt\n"),
     ];
     let alloc = rt.alloc();
     for (line, text, written) in ROWS {

@@ -3,23 +3,8 @@
 //! The answers are those of python3's datetime, tried day by day and time by time. Years outside 1
 //! to 9999 are moved by whole cycles of 400 years, which are 146,097 days.
 
-use super::{is_answered, joined, shows};
-use std::alloc::{AllocError, Global};
-use std::process::Abort;
+use super::{joined, nexts, shows};
 use std::test::Fail;
-
-/// `next` at the moment over the text ends with this status and writes this line.
-fn nexts(
-    rt: &impl Abort,
-    alloc: Global,
-    at: &str,
-    text: &str,
-    status: u8,
-    line: &str,
-) -> Result<(), AllocError> {
-    let next = joined(alloc, &["next at=", at])?;
-    is_answered(rt, alloc, (&next, text.as_bytes()), status, line)
-}
 
 #[test]
 fn rules_by_year_are_met(rt: HostRuntime) -> Result<(), Fail> {

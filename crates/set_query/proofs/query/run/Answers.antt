@@ -4,7 +4,8 @@ use Rattle.std.specs.String.{string_bytes}
 use Rattle.stored_pair.specs.Names.{entries_of}
 use Rattle.set_query.specs.Effects.{ReadsFront}
 use Rattle.set_query.specs.declared.reading.TheConstants.{ROOM}
-use Rattle.set_query.proofs.OutcomeLemmas.{Ends, Reads, refused-ends, replied-ends, ends_ample, ends_complete, ends_done, ends_ended, ends_memory, ends_read, ends_sink_fault, ends_statuses}
+use Rattle.set_query.proofs.OutcomeLemmas.{Budgets, Ends, Reads, refused-ends, replied-ends, ends_ample, ends_complete, ends_done, ends_ended, ends_memory, ends_read, ends_sink_fault, ends_statuses}
+use Rattle.set_query.proofs.PreparingLemmas.{asks_in_range}
 use Rattle.set_query.proofs.query.run.Given as given
 use Rattle.set_query.proofs.query.run.Goals as goal
 use Rattle.set_query.proofs.query.run.Goals.{After-drop-text, After-refuse}
@@ -15,11 +16,28 @@ front g c = rw c.deref.ensures.value c.in-Ok-read_text.ensures.front
 reads : (g : given.Over) (c : After-drop-text g) → Reads
 reads g c = record { unique = c.reading_laws.ensures.unique; long = c.reading_laws.ensures.long }
 
+budgets : (g : given.Over) (c : After-drop-text g) → Budgets
+budgets g c = record {
+  above = c.budget_laws.ensures.enough;
+  finds = c.budget_laws.ensures.ample;
+  walks = record {
+    begin = c.step_laws.ensures.begin;
+    exist = c.report_laws.ensures.exist;
+    unique = c.report_laws.ensures.unique;
+    ample = c.report_laws.ensures.ample;
+    enough = c.report_laws.ensures.enough;
+  };
+  reach = c.tree_laws.ensures.reach;
+}
+
 replied : (g : given.Over) (c : After-drop-text g) → Ends g.K.Sink c.args.sink.now c.reply.new.sink (entries_of c.args.book.now) (map string_bytes c.args.words.now) (g.S.Source.left c.args.source.now) c.reply.result
 replied g c = replied-ends _ _ _ _ _ _ _ (reads g c) (g.S.Source.left c.read_text.new.source) c.in-Ok.query c.deref.result.now c.in-Ok.ensures (front g c) c.reply.ensures.outcome
 
 refused : (g : given.Over) (c : After-refuse g) → Ends g.K.Sink c.args.sink.now c.refuse.new.sink (entries_of c.args.book.now) (map string_bytes c.args.words.now) (g.S.Source.left c.args.source.now) c.refuse.result
 refused g c = refused-ends _ _ _ _ _ _ _ c.in-Err.fault c.in-Err.ensures (rw c.words_refusal.ensures.value at c.refuse.ensures)
+
+pub reply-requires : goal.reply-requires
+reply-requires g c = asks_in_range (map string_bytes c.args.words.now) c.in-Ok.query c.in-Ok.ensures
 
 pub returns-in-Ok-read_text-clause-statuses : goal.returns-in-Ok-read_text-clause-statuses
 returns-in-Ok-read_text-clause-statuses g c = ends_statuses _ _ _ _ _ _ _ (replied g c)
@@ -32,7 +50,7 @@ returns-in-Ok-read_text-clause-done g c = ends_done _ _ _ _ _ _ _ (replied g c)
 
 pub returns-in-Ok-read_text-clause-ample : goal.returns-in-Ok-read_text-clause-ample
 returns-in-Ok-read_text-clause-ample g c = λ query asks.
-    ends_ample (reads g c) c.words_laws.ensures.unique c.budget_laws.ensures.enough c.budget_laws.ensures.ample c.tree_laws.ensures.reach _ _ _ _ _ _ _ query asks (replied g c)
+    ends_ample (reads g c) c.words_laws.ensures.unique (budgets g c) _ _ _ _ _ _ _ query asks (replied g c)
 
 pub returns-in-Ok-read_text-clause-unread : goal.returns-in-Ok-read_text-clause-unread
 returns-in-Ok-read_text-clause-unread g c = λ fault refused.
