@@ -1,14 +1,15 @@
 -- Reading operands, and moments, one after the other, as a loop does.
-use Rattle.std.proofs.Common.{◌≡◌, ℕ, zero, suc, ◌-◌, ◌≤◌, ◌<◌, true, false, List, [], ◌∷◌, ◌++◌, length, drop, Option, Some, None, refl, sym, ap, ◌∙◌, append_assoc, arith}
+use Rattle.std.proofs.Common.{◌≡◌, ℕ, zero, suc, ◌-◌, ◌≤◌, ◌<◌, true, false, List, [], ◌∷◌, ◌++◌, length, drop, Option, Some, refl, sym, ap, ◌∙◌, arith}
 use Rattle.std.proofs.lemmas.List.{append-nil}
 use Rattle.moment_core.specs.declared.joining.Op.{Op}
+use Rattle.moment_core.specs.Texts.{◌>>=◌}
 use Rattle.expr_tokens.specs.Plain.{Token}
 use Rattle.expr_tokens.specs.Plain as tokens
 use Rattle.expr_grammar.specs.declared.fault.ParseFault.{ParseFault}
 use Rattle.expr_grammar.specs.declared.fault.ParseFault.TheVariants as faults
 use Rattle.moment_core.specs.declared.line.Stamp.{Stamp}
 use Rattle.expr_grammar.specs.Form.{Form, Joined}
-use Rattle.expr_grammar.specs.Parsing.{◌>>=◌, Read, Fails, stands, chain_from, chain_at, with_first, moments_at, moments_end_at}
+use Rattle.expr_grammar.specs.Parsing.{Read, Fails, stands, chain_from, chain_at, moments_end_at}
 
 -- what is left of a loop over operands gives the whole
 pub record GoesOn (operand : List Token → Read) (op : Op) (left : Form) (rest : List Token) (total : Read) : Type 0 where

@@ -1,6 +1,6 @@
 -- What a reader read, from the readers that it is made of.
 use Rattle.std.proofs.Common.{◌≡◌, Option, Some, None, refl, ap, subst}
-use Rattle.expr_grammar.specs.Parsing.{◌>>=◌}
+use Rattle.moment_core.specs.Texts.{◌>>=◌}
 
 pub bind_some : {A B : Type 0} (o : Option A) (f : A → Option B) (y : B) → (o >>= f) ≡ Some y → (x : A) × (o ≡ Some x) × (f x ≡ Some y)
 bind_some (Some x) f y e = (x, refl, e)

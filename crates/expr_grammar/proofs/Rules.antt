@@ -1,21 +1,21 @@
 -- Rules are read just where their tokens stand.
-use Rattle.std.proofs.Common.{◌≡◌, inl, inr, ℕ, zero, suc, ◌+◌, ◌≤◌, ℤ, Bool, true, false, cond, ◌||◌, List, [], ◌∷◌, ◌++◌, length, drop, Option, Some, None, refl, sym, ap, subst, ◌∙◌, append_assoc, arith, length-append}
+use Rattle.std.proofs.Common.{◌≡◌, inl, inr, ℕ, zero, suc, ◌≤◌, ℤ, Bool, true, false, cond, List, [], ◌∷◌, ◌++◌, length, drop, Option, Some, None, refl, sym, ap, subst, ◌∙◌, append_assoc, arith, length-append}
 use Rattle.std.specs.List.{AllByRecursion, IsDistinct}
-use Rattle.std.proofs.lemmas.Bool.{cases_Bool}
+use Rattle.std.proofs.lemmas.Bool.{cases_Bool, or_parts}
 use Rattle.std.proofs.lemmas.List.{append-nil}
 use Rattle.rule_core.specs.declared.part.Freq.{Freq}
 use Rattle.rule_core.specs.declared.part.Freq.TheVariants as freqs
+use Rattle.moment_core.specs.Texts.{◌>>=◌}
 use Rattle.expr_tokens.specs.declared.token.Word.{Word}
 use Rattle.expr_tokens.specs.declared.token.Word.TheVariants as words
 use Rattle.expr_tokens.specs.Plain.{Token}
 use Rattle.expr_tokens.specs.Plain as tokens
-use Rattle.moment_core.specs.declared.line.Stamp.{Stamp}
 use Rattle.expr_grammar.specs.declared.syntax.Key.{Key}
 use Rattle.expr_grammar.specs.declared.syntax.Key.TheVariants as keys
 use Rattle.expr_grammar.specs.Fields.{AreFields, HasNumbers, field_tokens, fields_tokens, freq_word, is_single, key_word, more_numbers, rule_tokens, same_key}
 use Rattle.expr_grammar.specs.Form.{FieldForm, Values, Start, Form, Rule}
-use Rattle.expr_grammar.specs.Parsing.{◌>>=◌, ReadField, field_at, fields_from, freq_at, freq_named, has_key, is_close, key_named, more_at, number_at, numbers_at, rule_at, values_at, with_freq, with_key}
-use Rattle.moment_core.proofs.Lists.{all_both, all_front, all_behind}
+use Rattle.expr_grammar.specs.Parsing.{field_at, fields_from, freq_at, freq_named, has_key, is_close, key_named, more_at, number_at, numbers_at, rule_at, values_at, with_freq, with_key}
+use Rattle.moment_core.proofs.Lists.{all_both, all_behind}
 use Rattle.expr_grammar.proofs.Parts.{along, bind_some, found, read_is, some_is}
 
 -- names
@@ -125,15 +125,11 @@ field_sound (tokens.Word words.Start ∷ tokens.Equals ∷ tokens.Moment m ∷ t
     along (TakesField (tokens.Word words.Start ∷ tokens.Equals ∷ tokens.Moment m ∷ ts)) (Start m) f ts rest e (record { whole = refl; numbers = tt })
 field_sound ts f rest e = values_sound ts f rest e
 
-neither : (a b : Bool) → (a || b) ≡ false → (a ≡ false) × (b ≡ false)
-neither true b e = absurd cc
-neither false b e = (refl, e)
-
 push_distinct : (f : FieldForm) (before : List FieldForm) → IsDistinct same_key before → has_key f before ≡ false → IsDistinct same_key (before ++ f ∷ [])
 unfolding IsDistinct
 push_distinct f [] once free = (tt, tt)
 push_distinct f (x ∷ before) once free =
-    let parts = neither (same_key x f) (has_key f before) free in
+    let parts = or_parts (same_key x f) (has_key f before) free in
     (all_both (λ y. same_key x y ≡ false) before (f ∷ []) once.0 (parts.0, tt), push_distinct f before once.1 parts.1)
 
 -- the fields behind those that were found, up to their bracket

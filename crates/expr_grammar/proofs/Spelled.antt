@@ -8,11 +8,11 @@ use Rattle.expr_tokens.specs.declared.token.Word.TheVariants as words
 use Rattle.expr_tokens.specs.Plain.{Token}
 use Rattle.expr_tokens.specs.Plain as tokens
 use Rattle.expr_grammar.specs.declared.syntax.SpanBound.{SpanBound}
-use Rattle.expr_grammar.specs.Form.{Form, Empty, Listed, Span, Rule, Rrule, Joined, Inverse, Forms}
+use Rattle.expr_grammar.specs.Form.{Form, Empty, Listed, Span, Rule, Rrule, Joined, Inverse}
 use Rattle.expr_grammar.specs.Fields.{rule_tokens}
 use Rattle.expr_grammar.specs.Grammar.{ends, goes, Chain, MoreMoments, closed, more, IsLow, from_start, from_after, IsHigh, to_end, to_before, Bounds, no_bound, low_bound, high_bound, both_bounds, Leaf, empty, listed, span, rule, rrule, rrule_tokens, leaf, brackets, inverse, IsExpr, IsAtom, Spells, one, two, nesting_limit}
 use Rattle.expr_grammar.specs.Laws.{PrintedIsSpelled}
-use Rattle.expr_grammar.specs.Nesting.{is_joined, AsOperand, NestsWithin, height, HasTokens, in_brackets, more_tokens, low_word, high_word, bounds_tokens, spelled, spelled_second, spelled_program, IsPrintableForm, IsPrintableSecond, IsPrintable}
+use Rattle.expr_grammar.specs.Nesting.{is_joined, AsOperand, NestsWithin, height, HasTokens, in_brackets, more_tokens, low_word, high_word, bounds_tokens, spelled, spelled_second, IsPrintableForm, IsPrintableSecond}
 
 module _ (Operand : Form → List Token → Type 0) (op : Op) where
   pub alone : (t : Form) (ts : List Token) → Operand t ts → Chain Operand op t ts

@@ -7,6 +7,7 @@ use denote.Ref.{Bor}
 use Rattle.moment_core.specs.declared.line.Stamp.{Stamp}
 use Rattle.moment_core.specs.declared.joining.Op.{Op}
 use Rattle.moment_core.specs.declared.joining.Op.TheVariants as operators
+use Rattle.moment_core.specs.Texts.{◌>>=◌}
 use Rattle.rule_core.specs.declared.part.Freq.{Freq}
 use Rattle.rule_core.specs.declared.part.Freq.TheVariants as freqs
 use Rattle.expr_tokens.specs.declared.token.Word.{Word}
@@ -25,11 +26,6 @@ use Rattle.expr_grammar.specs.Syntax.{field_form, form_of}
 use Rattle.expr_grammar.specs.Fields.{is_single, same_key}
 use Rattle.expr_grammar.specs.Grammar.{nesting_limit}
 use Rattle.expr_grammar.specs.Form.{FieldForm, Values, Start, Form, Empty, Listed, Span, Rule, Rrule, Joined, Inverse, Forms}
-
-infixl 10 ◌>>=◌
-abbrev pub ◌>>=◌ : {A B : Type 0} → Option A → (A → Option B) → Option B
-(Some x) >>= f = f x
-None >>= f = None
 
 -- What a function returned, seen by view, is what reading gives, unless memory ran out.
 abbrev pub Fails : {Y : Type 0} → ParseFault → Option Y → Type 0

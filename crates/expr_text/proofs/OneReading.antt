@@ -23,7 +23,7 @@ use Rattle.expr_text.specs.Fault as faults
 use Rattle.expr_text.specs.Accepted.{HasPositions, IsRead, IsSorted, IsSpelled, Spelling, held, or_nameless, or_rrule_fault, or_rule_fault, sorted, spelled, tokens_in, unless_long, unless_nameless, unless_rrule_fault, unless_rule_fault, unless_unbuilt, unsorted, unspelled, vacant, with_places}
 use Rattle.expr_tree.specs.WellFormed.{AreWellFormed}
 use Rattle.expr_text.specs.Calls.{calls_unbuilt}
-use Rattle.phases.specs.Phases.{By, IsPhase, fails}
+use Rattle.phases.specs.Phases.{Anything, By, IsPhase, fails}
 use Rattle.expr_text.specs.Faults.{Tokens, all_spans_of, first_nameless, first_rrule_fault, first_rule_fault, is_span_name, kinds_of, second_spans, sort_fault, span_places, spans_of}
 use Rattle.expr_text.specs.Laws.{ReadingsAreUnique, ReadingsExist}
 use Rattle.expr_text.specs.Phases.{AreBoth, HasSpans, IsInRange}
@@ -33,9 +33,6 @@ use Rattle.expr_text.proofs.Moments.{all_have_spans, all_stand, made_of}
 use Rattle.expr_text.proofs.Places.{long_text}
 use Rattle.expr_text.proofs.Positions.{held_or_vacant, none_vacant, one_vacant}
 use Rattle.expr_text.proofs.Ranges.{reading_in_range}
-
-abbrev AnyText : List ℕ → Type 0
-AnyText text = Unit {0}
 
 -- the moments that the tokens name are of the calendar range
 abbrev AreInRange : Tokens → Type 0
@@ -76,8 +73,8 @@ unless_or : {A F : Type 0} (b : Bool) (f : F) (a c : A) → cond b (Err f) (Ok a
 unless_or true f a c e = absurd cc
 unless_or false f a c e = cc
 
-long_phase : IsPhase AnyText (By unless_long) AnyText
-long_phase = by_phase AnyText AnyText unless_long (λ a b h e. tt)
+long_phase : IsPhase Anything (By unless_long) Anything
+long_phase = by_phase Anything Anything unless_long (λ a b h e. tt)
 
 kinds_in_range : (size : ℕ) (found : List (Token × ℕ)) → AllByRecursion (λ (x : Token × ℕ). IsInRange x.0) found → (ts : Tokens) → with_places size (Ok found) ≡ Ok ts → AreInRange ts
 kinds_in_range size found h ts e = subst AreInRange (let same : map (λ (x : Token × ℕ). (x.0, size - x.1)) found ≡ ts = cc in same) (mapped found h)
@@ -86,8 +83,8 @@ kinds_in_range size found h ts e = subst AreInRange (let same : map (λ (x : Tok
     mapped [] h = tt
     mapped (x ∷ others) h = (h.0, mapped others h.1)
 
-tokens_phase : IsPhase AnyText (By tokens_in) AreInRange
-tokens_phase = by_phase AnyText AreInRange tokens_in (λ text ts h e. by_found text ts (reading_of text) refl e)
+tokens_phase : IsPhase Anything (By tokens_in) AreInRange
+tokens_phase = by_phase Anything AreInRange tokens_in (λ text ts h e. by_found text ts (reading_of text) refl e)
   where
     by_found : (text : List ℕ) (ts : Tokens) (found : Found) → reading_of text ≡ found → with_places (length text) found ≡ Ok ts → AreInRange ts
     by_found text ts (Ok found) e d = kinds_in_range (length text) found (reading_in_range text found e) ts d
@@ -205,10 +202,10 @@ module _ (one_program : SpellOne) (decided : SpellOrNot) (kept : MomentsAreKept)
           let x = all_stand writable p h.made h.spans h.ruled h.written in
           record { well_formed = subst AreWellFormed (let are = x.are in let same : x.trees ≡ trees = cc in same) x.well_formed; sorted = e }
 
-  all_phases : IsPhase AnyText IsRead IsAccepted
+  all_phases : IsPhase Anything IsRead IsAccepted
   all_phases =
-      then_phase (By unless_long) _ AnyText AnyText IsAccepted long_phase
-      (then_phase (By tokens_in) _ AnyText AreInRange IsAccepted tokens_phase
+      then_phase (By unless_long) _ Anything Anything IsAccepted long_phase
+      (then_phase (By tokens_in) _ Anything AreInRange IsAccepted tokens_phase
       (then_phase (By unless_unbuilt) _ AreInRange AreInRange IsAccepted built_phase
       (then_phase IsSpelled _ AreInRange IsSpelling IsAccepted spelled_phase
       (then_phase (By unless_nameless) _ IsSpelling IsNamed IsAccepted named_phase

@@ -1,11 +1,11 @@
 -- Each moment among the tokens of a text is of the calendar range.
-use Rattle.std.proofs.Common.{◌≡◌, ℕ, zero, suc, ◌<◌, ◌≤◌, pos, ◌+ℤ◌, Bool, true, false, cond, List, [], ◌∷◌, length, Option, Some, None, Ok, Err, refl, subst, arith}
+use Rattle.std.proofs.Common.{◌≡◌, ℕ, zero, suc, ◌≤◌, Bool, true, false, cond, List, [], ◌∷◌, length, Option, Some, None, Ok, Err, refl, subst, arith}
 use Rattle.std.specs.Prelude.{◌==◌, find}
 use Rattle.std.specs.List.{AllByRecursion, AllZip}
-use Rattle.std.proofs.lemmas.Int.{ints}
 use Rattle.moment_core.specs.Line.{IsCalendarMoment}
 use Rattle.moment_core.specs.declared.line.Stamp.{Stamp}
-use Rattle.moment_core.specs.declared.line.TheConstants.{LOW, WIDTH}
+use Rattle.moment_core.specs.declared.line.TheConstants.{WIDTH}
+use Rattle.moment_core.proofs.LineLaws.{calendar_from_low}
 use Rattle.expr_tokens.specs.declared.class.Class.TheVariants as classes
 use Rattle.expr_tokens.specs.declared.token.Token.{Token as Placed}
 use Rattle.moment_core.specs.declared.joining.Op.TheVariants as operators
@@ -18,13 +18,10 @@ use Rattle.expr_tokens.specs.Reading.{AreFound, Found, Front, IsFound, and_then,
 use Rattle.expr_tokens.specs.Stamps.{is_literal, stamp_of, stamps}
 use Rattle.expr_text.specs.Phases.{IsInRange}
 
-in_range : (n : ℕ) → n < WIDTH → IsCalendarMoment (LOW +ℤ pos n)
-in_range n lt = grind (arith, ints)
-
 stamps_in_range : (n : ℕ) → n ≤ WIDTH → AllByRecursion (λ s. IsCalendarMoment s.moment.0) (stamps n)
 unfolding stamps
 stamps_in_range zero le = tt
-stamps_in_range (suc n) le = (in_range n (omega (arith, le)), (in_range n (omega (arith, le)), stamps_in_range n (omega (arith, le))))
+stamps_in_range (suc n) le = (calendar_from_low n (omega (arith, le)), (calendar_from_low n (omega (arith, le)), stamps_in_range n (omega (arith, le))))
 
 found_in_range : (p : Stamp → Bool) (ss : List Stamp) → AllByRecursion (λ s. IsCalendarMoment s.moment.0) ss → IsInRange (tokens.Moment (find p ss))
 found_in_range p [] h = tt

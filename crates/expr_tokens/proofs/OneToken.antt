@@ -7,13 +7,14 @@ use Rattle.std.specs.List.{list_all}
 use Rattle.std.proofs.lemmas.Bool.{le-leb, leb-true, and_parts, and_from, or_cases, cases_Bool, cases_lt, eqb-true, false_from_ne_true, or_left, or_right, false≢true, both_ways}
 use Rattle.std.proofs.lemmas.Bool.Decides.{nat_tests}
 use Rattle.moment_text.specs.Laws.{FrontsAreLongest, ShapedTextsHaveForms, ShapesEnd, begins_with_zone}
-use Rattle.moment_text.specs.Literal.{fits, has_form, form_of, zone_text, is_shaped, shaped_front}
+use Rattle.moment_core.specs.Texts.{with_sign, zone_text}
+use Rattle.moment_text.specs.Literal.{fits, has_form, form_of, is_shaped, shaped_front}
 use Rattle.expr_tokens.specs.declared.class.Class.TheVariants as classes
 use Rattle.expr_tokens.specs.Plain.{Token}
 use Rattle.expr_tokens.specs.Plain as tokens
 use Rattle.expr_tokens.specs.Class.{holds, front_of, behind, passes_first}
 use Rattle.expr_tokens.specs.Names.{word_of}
-use Rattle.expr_tokens.specs.Reading.{begins_digit, begins_number, digits_of, value_from, signed, named, number_at, name_at, quote_at, text_at, sign_of, signed_at, figures_at, string_limit, token_at}
+use Rattle.expr_tokens.specs.Reading.{begins_digit, begins_number, digits_of, value_from, named, number_at, name_at, quote_at, text_at, sign_of, signed_at, figures_at, string_limit, token_at}
 use Rattle.expr_tokens.specs.Stamps.{stamp_of}
 use Rattle.expr_tokens.specs.Laws.{goes_on}
 use Rattle.expr_tokens.specs.Longest.{AreDigits}
@@ -117,7 +118,7 @@ text_read quoted rest each short =
 
 -- numbers
 
-number_there : (minus : Bool) (digits rest : List ℕ) → AreDigits digits → begins_digit rest ≡ false → number_at minus (digits ++ rest) ≡ Some (tokens.Number (signed minus (value_from 0 digits)), rest)
+number_there : (minus : Bool) (digits rest : List ℕ) → AreDigits digits → begins_digit rest ≡ false → number_at minus (digits ++ rest) ≡ Some (tokens.Number (with_sign minus (value_from 0 digits)), rest)
 unfolding number_at
 number_there minus digits rest are stop =
     let run = run_and_rest (holds classes.Digit) digits rest are.each stop in
@@ -267,7 +268,7 @@ module _ (forms : ShapedTextsHaveForms) (fronts : FrontsAreLongest) (shapes_end 
         read = first.0 ∙ figures_number (d ∷ digits ++ rest) none ∙ signed ∙ number_there false (d ∷ digits) rest are (stops rest stop).0;
       }
 
-  pub negative_read : (digits rest : List ℕ) → AreDigits digits → goes_on rest ≡ false → Reads (45 ∷ digits) (tokens.Number (signed true (value_from 0 digits))) rest
+  pub negative_read : (digits rest : List ℕ) → AreDigits digits → goes_on rest ≡ false → Reads (45 ∷ digits) (tokens.Number (with_sign true (value_from 0 digits))) rest
   negative_read digits rest are stop =
       let first = figures_first 45 (digits ++ rest) (digits_begin digits rest are.each are.some) in
       let none = no_literal (45 ∷ digits ++ rest) (negative_no_literal digits rest are stop) in

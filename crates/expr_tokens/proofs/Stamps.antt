@@ -6,29 +6,21 @@ use Rattle.std.proofs.lemmas.Bool.Decides.{nat_tests}
 use Rattle.std.proofs.lemmas.Slice.Eq.{bytes_eq-Decides}
 use Rattle.std.proofs.lemmas.Int.{ints}
 use Rattle.std.proofs.lemmas.Bool.{cases_lt}
-use Rattle.moment_core.specs.Line.{IsCalendarMoment, IsWorkingMoment}
+use Rattle.moment_core.specs.Line.{IsCalendarMoment}
 use Rattle.moment_core.specs.declared.line.Stamp.{Stamp}
 use Rattle.moment_core.specs.declared.line.TheConstants.{LOW, WIDTH}
 use Rattle.moment_text.specs.Laws.{LiteralsTellMomentsApart}
-use Rattle.moment_text.specs.Literal.{Names, literal_of, shaped_front}
+use Rattle.moment_text.specs.Literal.{IsStamp, Names, literal_of, shaped_front}
+use Rattle.moment_core.proofs.LineLaws.{calendar_from_low, calendar_works}
 use Rattle.expr_tokens.specs.Laws.{stamp}
 use Rattle.expr_tokens.specs.Plain.{Moment}
 use Rattle.expr_tokens.specs.Reading.{figures_at}
 use Rattle.expr_tokens.specs.Stamps.{stamp_after, stamps, is_literal, stamp_of}
 
-abbrev IsNamed : List ℕ → Stamp → Type 0
-IsNamed text s = Names text s.moment.0 s.absolute
-
--- moments of the calendar range, as seconds from its beginning
-
-in_range : (n : ℕ) → n < WIDTH → IsCalendarMoment (LOW +ℤ pos n)
-in_range n lt = grind (arith, ints)
+-- a moment of the calendar range, as seconds from its beginning
 
 after_low : (t : ℤ) → IsCalendarMoment t → (n : ℕ) × (n < WIDTH) × (t ≡ LOW +ℤ pos n)
 after_low t within = (unsigned_abs (t -ℤ LOW), grind (arith, ints, within.0, within.1), grind (arith, ints, within.0, within.1))
-
-working : (t : ℤ) → IsCalendarMoment t → IsWorkingMoment t
-working t within = (grind (arith, ints, within.0), grind (arith, ints, within.1))
 
 -- what a search finds
 
@@ -43,21 +35,21 @@ found_first true x s others e = inl (refl, cc)
 found_first false x s others e = inr e
 
 module _ (text : List ℕ) where
-  named_after : (n : ℕ) (absolute : Bool) → n < WIDTH → is_literal text (stamp_after n absolute) ≡ true → IsNamed text (stamp_after n absolute)
-  named_after n absolute lt pass = record { is_literal = (decides text (stamp_after n absolute)).0 pass; in_range = in_range n lt }
+  named_after : (n : ℕ) (absolute : Bool) → n < WIDTH → is_literal text (stamp_after n absolute) ≡ true → IsStamp text (stamp_after n absolute)
+  named_after n absolute lt pass = record { is_literal = (decides text (stamp_after n absolute)).0 pass; in_range = calendar_from_low n lt }
 
   true_false : true ≡ false → ⊥
   true_false e = absurd cc
 
   -- what is found has the literal
-  found_is_named : (n : ℕ) (s : Stamp) → n ≤ WIDTH → find (is_literal text) (stamps n) ≡ Some s → IsNamed text s
+  found_is_named : (n : ℕ) (s : Stamp) → n ≤ WIDTH → find (is_literal text) (stamps n) ≡ Some s → IsStamp text s
   unfolding stamps
   found_is_named zero s le found = absurd cc
   found_is_named (suc n) s le found =
       elim (found_first (is_literal text (stamp_after n false)) (stamp_after n false) s (find (is_literal text) (stamp_after n true ∷ stamps n)) found) [
-        | inl w ↦ subst (IsNamed text) w.1 (named_after n false (omega arith) w.0)
+        | inl w ↦ subst (IsStamp text) w.1 (named_after n false (omega arith) w.0)
         | inr more ↦ elim (found_first (is_literal text (stamp_after n true)) (stamp_after n true) s (find (is_literal text) (stamps n)) more) [
-          | inl w ↦ subst (IsNamed text) w.1 (named_after n true (omega arith) w.0)
+          | inl w ↦ subst (IsStamp text) w.1 (named_after n true (omega arith) w.0)
           | inr more ↦ found_is_named n s (omega arith) more
         ]
       ]
@@ -81,13 +73,13 @@ module _ (text : List ℕ) where
       here (is_literal text (stamp_after n true)) (stamp_after n true) (find (is_literal text) (stamps n)) (λ not_absolute.
       found_some n k absolute (below n k absolute lt pass not_floating not_absolute) pass))
 
-  some_stamp : (s : Stamp) → IsNamed text s → (found : Stamp) × (stamp_of text ≡ Some found)
+  some_stamp : (s : Stamp) → IsStamp text s → (found : Stamp) × (stamp_of text ≡ Some found)
   unfolding stamp_of
   some_stamp s named =
       let k = after_low s.moment.0 named.in_range in
       found_some WIDTH k.0 s.absolute k.1 (passes text (stamp_after k.0 s.absolute) (subst (λ (t : ℤ). text ≡ literal_of t s.absolute) k.2 named.is_literal))
 
-  stamp_named : (s : Stamp) → stamp_of text ≡ Some s → IsNamed text s
+  stamp_named : (s : Stamp) → stamp_of text ≡ Some s → IsStamp text s
   unfolding stamp_of
   stamp_named s found = found_is_named WIDTH s (omega arith) found
 
@@ -109,7 +101,7 @@ pub stamp_of-literal : (apart : LiteralsTellMomentsApart) (t : ℤ) (absolute : 
 stamp_of-literal apart t absolute within =
     let other = some_stamp (literal_of t absolute) (stamp t absolute) (record { is_literal = refl; in_range = within }) in
     let named = stamp_named (literal_of t absolute) other.0 other.1 in
-    let same = apart t other.0.moment.0 absolute other.0.absolute (working t within) (working other.0.moment.0 named.in_range) named.is_literal in
+    let same = apart t other.0.moment.0 absolute other.0.absolute (calendar_works t within) (calendar_works other.0.moment.0 named.in_range) named.is_literal in
     other.1 ∙ ap (λ (s : Stamp). Some s) (stamp_same other.0 t absolute same.0 same.1)
 
 pub moment_there : (bytes : List ℕ) → 0 < shaped_front bytes → figures_at bytes ≡ Some (Moment (stamp_of (take (shaped_front bytes) bytes)), drop (shaped_front bytes) bytes)

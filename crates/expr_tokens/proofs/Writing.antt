@@ -7,6 +7,7 @@ use Rattle.std.proofs.lemmas.Str.Parse.{numerals_by_fold, IsNumeralModel}
 use Rattle.std.proofs.lemmas.Fmt.{digits_decimal, digits_value-decimal, decimal_nonempty, length-decimal-le}
 use Rattle.std.proofs.lemmas.Int.{ints}
 use Rattle.std.proofs.lemmas.List.{append-nil}
+use Rattle.moment_core.specs.Texts.{with_sign}
 use Rattle.moment_text.specs.Laws.{FrontsAreLongest, LiteralsAreShaped, LiteralsTellMomentsApart, ShapedTextsHaveForms, ShapesEnd}
 use Rattle.moment_text.specs.Literal.{literal_of}
 use Rattle.expr_tokens.specs.declared.class.Class.TheVariants as classes
@@ -16,7 +17,7 @@ use Rattle.expr_tokens.specs.Plain.{Token}
 use Rattle.expr_tokens.specs.Plain as tokens
 use Rattle.expr_tokens.specs.Class.{holds, passes_first}
 use Rattle.expr_tokens.specs.Names.{name_of, word_of}
-use Rattle.expr_tokens.specs.Reading.{Found, value_from, signed, named, with_token, token_at, reading_from, reading_of, alone, tokens_of}
+use Rattle.expr_tokens.specs.Reading.{Found, value_from, named, with_token, token_at, reading_from, reading_of, alone, tokens_of}
 use Rattle.expr_tokens.specs.Stamps.{stamp_of}
 use Rattle.expr_tokens.specs.Laws.{before, Lexes, NothingIsRead, PartsAreRead, TextsAreRead, SpacesAreRead, SignsAreRead, WordsAreRead, StringsAreRead, NumbersAreRead, MomentsAreRead}
 use Rattle.expr_tokens.specs.Longest.{AreDigits}
@@ -145,7 +146,7 @@ decimal_digits n short = record {
   most = length-decimal-le 13 n (omega arith) short (omega arith);
 }
 
-negative : (n : ℕ) → signed true (suc n) ≡ negsuc n
+negative : (n : ℕ) → with_sign true (suc n) ≡ negsuc n
 negative n = grind (arith, ints)
 
 module _ (forms : ShapedTextsHaveForms) (fronts : FrontsAreLongest) (shapes_end : ShapesEnd) where
@@ -155,7 +156,7 @@ module _ (forms : ShapedTextsHaveForms) (fronts : FrontsAreLongest) (shapes_end 
       rw value at (Lexes-token (decimal n) (tokens.Number (pos (value_from 0 (decimal n)))) rest (number_read forms fronts shapes_end (decimal n) rest (decimal_digits n short) stop))
   Lexes-number (negsuc n) rest short stop =
       let value : value_from 0 (decimal (suc n)) ≡ suc n = digits_value-decimal own (suc n) (omega arith) in
-      rw (value, negative n) at (Lexes-token (45 ∷ decimal (suc n)) (tokens.Number (signed true (value_from 0 (decimal (suc n))))) rest (negative_read forms fronts shapes_end (decimal (suc n)) rest (decimal_digits (suc n) short) stop))
+      rw (value, negative n) at (Lexes-token (45 ∷ decimal (suc n)) (tokens.Number (with_sign true (value_from 0 (decimal (suc n))))) rest (negative_read forms fronts shapes_end (decimal (suc n)) rest (decimal_digits (suc n) short) stop))
 
   pub Lexes-moment : LiteralsAreShaped → LiteralsTellMomentsApart → MomentsAreRead
   Lexes-moment shaped apart t absolute rest within stop =

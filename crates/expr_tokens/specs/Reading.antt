@@ -1,8 +1,9 @@
 -- The tokens of a text, by the longest reading.
-use Rattle.std.specs.Prelude.{◌≡◌, ℕ, zero, suc, ◌+◌, ◌-◌, ◌*◌, ◌≤◌, ℤ, pos, Bool, true, false, ◌&&◌, ◌||◌, nat_le, nat_lt, ◌==◌, List, [], ◌∷◌, length, take, drop, map, Option, Some, None, Result, Ok, Err, if◌then◌else◌, ◌-ℤ◌}
+use Rattle.std.specs.Prelude.{◌≡◌, ℕ, zero, suc, ◌+◌, ◌-◌, ◌*◌, ◌≤◌, Bool, true, false, ◌&&◌, ◌||◌, nat_le, nat_lt, ◌==◌, List, [], ◌∷◌, length, take, drop, map, Option, Some, None, Result, Ok, Err, if◌then◌else◌}
 use Rattle.std.specs.List.{AllZip}
 use Rattle.std.specs.Global.{Vec}
 use denote.Ref.{Bor}
+use Rattle.moment_core.specs.Texts.{with_sign}
 use Rattle.moment_text.specs.Literal.{shaped_front}
 use Rattle.expr_tokens.specs.declared.class.Class.TheVariants as classes
 use Rattle.expr_tokens.specs.declared.fault.TokenFault.{TokenFault}
@@ -32,16 +33,12 @@ unfoldable pub value_from : ℕ → List ℕ → ℕ
 value_from n [] = n
 value_from n (d ∷ digits) = value_from (10 * n + (d - 48)) digits
 
-abbrev pub signed : Bool → ℕ → ℤ
-signed false n = pos n
-signed true n = pos 0 -ℤ pos n
-
 -- all the digits, of which at most 13 are a number
 unfoldable pub number_at : Bool → List ℕ → Front
 number_at minus bytes =
     if nat_le (length (digits_of bytes)) 13
     then Some (
-      tokens.Number (signed minus (value_from 0 (digits_of bytes))),
+      tokens.Number (with_sign minus (value_from 0 (digits_of bytes))),
       behind (holds classes.Digit) bytes,
     )
     else None

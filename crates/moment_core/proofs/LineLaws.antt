@@ -1,5 +1,5 @@
 -- Steps on the line, what is seen on the way, and the nearest places that a search finds.
-use Rattle.std.proofs.Common.{◌≡◌, inl, inr, ap, refl, sym, subst, ◌∙◌, arith, ℕ, ◌+◌, ◌*◌, ◌≤◌, ℤ, pos, negsuc, ◌+ℤ◌, ◌-ℤ◌, ◌≤ℤ◌, Bool, ◌&&◌}
+use Rattle.std.proofs.Common.{◌≡◌, inl, inr, ap, refl, sym, subst, ◌∙◌, arith, ℕ, ◌+◌, ◌*◌, ◌≤◌, ℤ, pos, negsuc, ◌+ℤ◌, ◌-ℤ◌, ◌≤ℤ◌, ◌<◌, Bool, ◌&&◌}
 use Rattle.std.specs.Ordering.{int_eq}
 use Rattle.std.proofs.lemmas.Bool.{and_left, cases_Bool, cases_order, true≢false}
 use Rattle.std.proofs.lemmas.Int.{ints}
@@ -11,6 +11,7 @@ use Rattle.moment_core.specs.declared.line.Dir.TheVariants.{Fore, Back}
 use Rattle.moment_core.specs.declared.line.Moment.{Moment}
 use Rattle.moment_core.specs.declared.line.Step.{Step}
 use Rattle.moment_core.specs.declared.line.Step.TheVariants.{Hit, Pass, End}
+use Rattle.moment_core.specs.declared.line.TheConstants.{LOW, WIDTH}
 use Rattle.moment_core.proofs.Truths.{not_both}
 use Rattle.moment_core.proofs.Comparing.{int_eq-is, int_eq-same}
 use Rattle.moment_core.proofs.FloorLemmas.{floor_arith}
@@ -66,6 +67,10 @@ moment_in_range q here =
     let low : position_of (moment_of q) ≤ℤ q = near.0 in
     let high : q ≤ℤ (position_of (moment_of q) +ℤ pos 1) = near.1 in
     (omega (arith, ints), omega (arith, ints))
+
+-- a moment of the calendar range by its seconds from the range's beginning
+pub calendar_from_low : (n : ℕ) → n < WIDTH → IsCalendarMoment (LOW +ℤ pos n)
+calendar_from_low n near = grind (arith, ints)
 
 -- a moment of the calendar range is one of the working range
 pub calendar_works : (t : ℤ) → IsCalendarMoment t → IsWorkingMoment t

@@ -8,5 +8,6 @@ pub mod LineLaws
 pub mod Ranks
 pub mod Sets
 pub mod Steps
+pub mod Texts
 pub mod TimeOfDay
 pub mod Units

@@ -1,6 +1,6 @@
 -- Steps that may fail, one after the other.
 use Rattle.std.proofs.Common.{◌≡◌, Bool, false, Option, Some, None, IfSome, refl, sym, ◌∙◌}
-use Rattle.moment_text.specs.Parts.{◌>>=◌}
+use Rattle.moment_core.specs.Texts.{◌>>=◌}
 
 -- what holds of what each step finds
 pub IfSome-then : {A B : Type 0} (P : A → Type 0) (Q : B → Type 0) (o : Option A) (f : A → Option B) → IfSome o P → ((x : A) → P x → IfSome (f x) Q) → IfSome (o >>= f) Q

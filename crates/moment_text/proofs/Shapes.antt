@@ -8,7 +8,8 @@ use Rattle.std.proofs.lemmas.Bool.Decides.{nat_tests}
 use Rattle.moment_text.specs.declared.parts.Date.{Date}
 use Rattle.moment_text.specs.declared.parts.Time.{Time}
 use Rattle.moment_text.specs.declared.parts.Literal.{Literal}
-use Rattle.moment_text.specs.Literal.{has_form, form_of, zone_text, is_shaped, shaped_front}
+use Rattle.moment_core.specs.Texts.{zone_text}
+use Rattle.moment_text.specs.Literal.{has_form, form_of, is_shaped, shaped_front}
 use Rattle.moment_text.specs.Parts.{Front, text_of, two_at, behind, past, date_at, time_at, unsigned_at, literal_at}
 use Rattle.std.proofs.Math.Seq.{take-append_seam}
 use Rattle.moment_core.proofs.Truths.{same_or_not}

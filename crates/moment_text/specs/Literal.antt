@@ -4,6 +4,8 @@ use Rattle.std.specs.Char.{is_ascii_digit}
 use Rattle.moment_core.specs.Calendar.{year_of, month_of, day_of_month}
 use Rattle.moment_core.specs.TimeOfDay.{day_of, hour_of, minute_of, second_of}
 use Rattle.moment_core.specs.Line.{IsCalendarMoment}
+use Rattle.moment_core.specs.Texts.{zone_text}
+use Rattle.moment_core.specs.declared.line.Stamp.{Stamp}
 
 -- the last decimal digits of a number, as many as the width says, leading zeros kept
 abbrev pub digits_of : ℕ → ℕ → List ℕ
@@ -23,10 +25,6 @@ abbrev pub time_text : ℕ → ℕ → ℕ → List ℕ
 time_text hour minute second =
     digits_of 2 hour ++ codes ":" ++ digits_of 2 minute ++ codes ":" ++ digits_of 2 second
 
--- absolute moments have a Z
-abbrev pub zone_text : Bool → List ℕ
-zone_text absolute = if absolute then codes "Z" else []
-
 -- The literal of a moment t, a number of seconds, absolute or floating.
 unfoldable pub literal_of : ℤ → Bool → List ℕ
 literal_of t absolute =
@@ -38,6 +36,10 @@ literal_of t absolute =
 pub record Names (text : List ℕ) (t : ℤ) (absolute : Bool) : Type 0 where
   pub is_literal : text ≡ literal_of t absolute
   pub in_range : IsCalendarMoment t
+
+-- the literal of a moment of the calendar range, absolute or floating
+abbrev pub IsStamp : List ℕ → Stamp → Type 0
+IsStamp text stamp = Names text stamp.moment.0 stamp.absolute
 
 -- any digit where the form has a 0, and otherwise the form's own byte
 abbrev pub fits : ℕ → ℕ → Bool

@@ -3,11 +3,12 @@ use Rattle.std.specs.Prelude.{◌≡◌, ◌<◌, ℕ, zero, suc, ◌+◌, ◌*�
 use Rattle.std.specs.Char.{is_ascii_digit}
 use denote.Ref.{Bor}
 use Rattle.moment_core.specs.Calendar.{year_of, month_of, day_of_month}
+use Rattle.moment_core.specs.Texts.{◌>>=◌, zone_text}
 use Rattle.moment_core.specs.TimeOfDay.{day_of, hour_of, minute_of, second_of}
 use Rattle.moment_text.specs.declared.parts.Date.{Date}
 use Rattle.moment_text.specs.declared.parts.Time.{Time}
 use Rattle.moment_text.specs.declared.parts.Literal.{Literal}
-use Rattle.moment_text.specs.Literal.{date_text, time_text, zone_text}
+use Rattle.moment_text.specs.Literal.{date_text, time_text}
 
 -- the bytes of a literal
 abbrev pub text_of : Literal → List ℕ
@@ -47,11 +48,6 @@ pub record FitsDigits (l : Literal) : Type 0 where
   pub hour : l.time.hour < 100
   pub minute : l.time.minute < 100
   pub second : l.time.second < 100
-
-infixl 10 ◌>>=◌
-abbrev pub ◌>>=◌ : {A B : Type 0} → Option A → (A → Option B) → Option B
-(Some x) >>= f = f x
-None >>= f = None
 
 -- what stands at the front of some bytes, and the bytes behind it
 abbrev pub Front : Type 0 → Type 0

@@ -11,6 +11,10 @@ pub data Then {A B C F : Type 0} (P : A → Result B F → Type 0) (Q : B → Re
 abbrev pub By : {A B F : Type 0} → (A → Result B F) → A → Result B F → Type 0
 By f a r = r ≡ f a
 
+-- a phase may be given anything
+abbrev pub Anything : {A : Type 0} → A → Type 0
+Anything a = Unit {0}
+
 -- Over what it is given a phase has one answer, and what it gives is what the next one is given.
 pub record IsPhase {A B F : Type 0} (Given : A → Type 0) (P : A → Result B F → Type 0)
     (Gives : B → Type 0) : Type 0 where

@@ -5,6 +5,7 @@ use Rattle.moment_core.specs.declared.line.Dir.TheVariants.{Fore}
 use Rattle.moment_core.specs.declared.line.Stamp.{Stamp}
 use Rattle.span_core.specs.declared.answers.Token.{Token}
 use Rattle.token_text.specs.Texts.{Means as IsToken}
+use Rattle.moment_text.specs.Literal.{IsStamp}
 use Rattle.query_words.specs.declared.commands.Command.{Command}
 use Rattle.query_words.specs.declared.commands.Command.TheVariants.{Next, Previous, Current, Closest, Contains as ContainsOf, Walk, Resume, Min, Max, Empty, Count, Duration, Audit, ContainsSet, Intersects, Intersected, Show, Load}
 use Rattle.query_words.specs.declared.commands.Key.{Key}
@@ -20,7 +21,7 @@ use Rattle.query_words.specs.declared.values.Value.TheVariants.{Stamp as Stamped
 use Rattle.query_words.specs.Commands.{name_of, is_built, required}
 use Rattle.query_words.specs.Neighbours.{command_of, neighbour_of}
 use Rattle.query_words.specs.Reading.{Holds, AllFit, dir_in, number_in, stamp_in, token_in, value_at}
-use Rattle.query_words.specs.Words.{command_of_query, AreGood, Asks, IsBudget, IsDir, IsLimit, IsDirValue, IsFirstBad, IsNumberValue, IsRefused, IsStamp, IsStampValue, IsTokenValue, IsValue, Lacks, Says, SaysBudget, SaysLimit, SaysOr, Tells, given, by_default, bad, no_command}
+use Rattle.query_words.specs.Words.{command_of_query, AreGood, Asks, IsBudget, IsDir, IsLimit, IsDirValue, IsFirstBad, IsNumberValue, IsRefused, IsStampValue, IsTokenValue, IsValue, Lacks, Says, SaysBudget, SaysLimit, SaysOr, Tells, given, by_default, bad, no_command}
 use Rattle.query_words.proofs.Positions.{all_good, missing_first}
 use Rattle.query_words.proofs.SettingLemmas.{told_none}
 use Rattle.query_words.proofs.WordLemmas.{contains_one}

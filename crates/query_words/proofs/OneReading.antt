@@ -9,6 +9,7 @@ use Rattle.moment_core.specs.declared.line.Stamp.{Stamp}
 use Rattle.moment_text.specs.Laws.{LiteralsTellMomentsApart}
 use Rattle.token_text.specs.Laws.{TextsTellTokensApart}
 use Rattle.token_text.specs.Texts.{Means as IsToken}
+use Rattle.moment_text.specs.Literal.{IsStamp}
 use Rattle.query_words.specs.declared.commands.Command.{Command}
 use Rattle.query_words.specs.declared.commands.Command.TheVariants.{Walk, Resume, Show}
 use Rattle.query_words.specs.declared.commands.Key.{Key}
@@ -22,7 +23,7 @@ use Rattle.query_words.specs.declared.queries.WordsFault.TheVariants.{Bad}
 use Rattle.query_words.specs.Commands.{name_of, is_built}
 use Rattle.query_words.specs.Laws.{WordsAreReadOnce}
 use Rattle.query_words.specs.Neighbours.{command_of, neighbour_of}
-use Rattle.query_words.specs.Words.{word_of, command_of_query, Gives, Lacks, IsBudget, IsDir, IsLimit, IsNumber, IsStamp, IsBad, unfit, IsFirstBad, AreGood, SayEach, Says, SaysBudget, SaysLimit, SaysOr, Tells, given, by_default, Asks, IsRefused, no_command, unbuilt, bad}
+use Rattle.query_words.specs.Words.{word_of, command_of_query, Gives, Lacks, IsBudget, IsDir, IsLimit, IsNumber, IsBad, unfit, IsFirstBad, AreGood, SayEach, Says, SaysBudget, SaysLimit, SaysOr, Tells, given, by_default, Asks, IsRefused, no_command, unbuilt, bad}
 use Rattle.query_words.proofs.Asking.{built}
 use Rattle.query_words.proofs.Positions.{cut_at}
 use Rattle.query_words.proofs.Stamps.{one_dir, one_stamp}

@@ -6,13 +6,14 @@ use Rattle.std.proofs.lemmas.List.Elements.{Contains-append_left, Contains-appen
 use Rattle.std.specs.Option.{is_some}
 use Rattle.moment_core.specs.declared.line.Stamp.{Stamp}
 use Rattle.moment_text.specs.Laws.{LiteralsTellMomentsApart}
+use Rattle.moment_text.specs.Literal.{IsStamp}
 use Rattle.query_words.specs.declared.commands.Key.{Key}
 use Rattle.query_words.specs.declared.commands.Key.TheVariants.{At, From, To, Dir as DirOf, Limit, Budget, Token as TokenOf, Seed}
 use Rattle.query_words.specs.declared.settings.Settings.{Settings}
 use Rattle.query_words.specs.declared.values.Value.{Value}
 use Rattle.query_words.specs.declared.values.Value.TheVariants.{Stamp as Stamped, Dir as Directed, Number, Token as Placed}
 use Rattle.query_words.specs.Reading.{Holds, place_of, stamp_in, value_at, AreOrdered}
-use Rattle.query_words.specs.Words.{word_of, Agrees, Gives, InForm, IsStampValue, IsValue, IsStamp, Lacks, Says, Tells}
+use Rattle.query_words.specs.Words.{word_of, Agrees, Gives, InForm, IsStampValue, IsValue, Lacks, Says, Tells}
 use Rattle.query_words.proofs.Stamps.{one_stamp}
 use Rattle.query_words.proofs.WordLemmas.{contains_end, contains_one, lacks_more, one_key, one_value}
 

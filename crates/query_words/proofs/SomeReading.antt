@@ -16,7 +16,7 @@ use Rattle.moment_core.specs.declared.line.Pos.{Pos}
 use Rattle.moment_core.specs.declared.line.Stamp.{Stamp}
 use Rattle.moment_core.specs.declared.line.TheConstants.{LOW, HIGH, WIDTH}
 use Rattle.moment_text.specs.Laws.{LiteralsTellMomentsApart}
-use Rattle.moment_text.specs.Literal.{literal_of, Names}
+use Rattle.moment_text.specs.Literal.{IsStamp, literal_of, Names}
 use Rattle.span_core.specs.Tokens.{IsFit, IsPlaceFit}
 use Rattle.span_core.specs.declared.answers.Token.{Token}
 use Rattle.token_text.specs.Laws.{TextsTellTokensApart}
@@ -33,11 +33,11 @@ use Rattle.query_words.specs.declared.queries.WordsFault.{WordsFault}
 use Rattle.query_words.specs.declared.queries.WordsFault.TheVariants.{Unbuilt, Bad}
 use Rattle.query_words.specs.declared.values.Value.{Value}
 use Rattle.query_words.specs.declared.values.Value.TheVariants.{Stamp as Stamped, Dir as Directed, Number, Token as Placed}
-use Rattle.query_words.specs.Commands.{name_of, is_built, key_text, keys_of, required}
+use Rattle.query_words.specs.Commands.{name_of, is_built, keys_of, required}
 use Rattle.query_words.specs.Laws.{WordsAreRead}
 use Rattle.query_words.specs.Neighbours.{command_of}
 use Rattle.query_words.specs.Reading.{FitBelow, stamp_in, token_in}
-use Rattle.query_words.specs.Words.{word_of, Fits, Gives, Lacks, IsStamp, IsNumber, Agrees, AreInOrder, InForm, Says, Tells, IsDirValue, IsNumberValue, IsStampValue, IsTokenValue, IsValue, unfit, missing, IsFirstBad, AreGood, Asks, no_command, unbuilt, bad, AreRead}
+use Rattle.query_words.specs.Words.{word_of, Fits, Gives, Lacks, IsNumber, Agrees, AreInOrder, InForm, Says, Tells, IsDirValue, IsNumberValue, IsStampValue, IsTokenValue, IsValue, unfit, missing, IsFirstBad, AreGood, Asks, no_command, unbuilt, bad, AreRead}
 use Rattle.query_words.proofs.Asking.{Told, near_by, near_needs, near_asked, needed, walk_by, walk_asked, resume_by, resume_asked, show_asked, stamp_told, token_told}
 use Rattle.query_words.proofs.SettingLemmas.{same_key}
 use Rattle.query_words.proofs.Positions.{cut_at, fits_one_more, unfit_first, missing_first, all_good}

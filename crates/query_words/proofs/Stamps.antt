@@ -3,7 +3,8 @@ use Rattle.std.proofs.Common.{◌≡◌, List, ℕ, codes, get_or, refl, sym, �
 use Rattle.moment_core.specs.declared.line.Stamp.{Stamp}
 use Rattle.moment_text.specs.Laws.{LiteralsTellMomentsApart}
 use Rattle.token_text.specs.Laws.{TextsTellTokensApart}
-use Rattle.query_words.specs.Words.{IsDirValue, IsNumber, IsNumberValue, IsStamp, IsStampValue, IsTokenValue, IsDir, IsValue}
+use Rattle.moment_text.specs.Literal.{IsStamp}
+use Rattle.query_words.specs.Words.{IsDirValue, IsNumber, IsNumberValue, IsStampValue, IsTokenValue, IsDir, IsValue}
 use Rattle.query_words.specs.declared.commands.Key.{Key}
 use Rattle.query_words.specs.declared.commands.Key.TheVariants.{At, From, To, Dir as DirOf, Limit, Budget, Token as TokenOf, Seed}
 use Rattle.query_words.specs.declared.values.Value.{Value}

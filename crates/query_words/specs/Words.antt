@@ -4,7 +4,7 @@ use Rattle.std.specs.Int.{IsInRange}
 use Rattle.std.specs.List.{Contains}
 use Rattle.std.specs.Str.Parse.{IsNumeral, digits_value}
 use Rattle.moment_core.specs.declared.line.Stamp.{Stamp}
-use Rattle.moment_text.specs.Literal.{Names}
+use Rattle.moment_text.specs.Literal.{IsStamp}
 use Rattle.query_words.specs.declared.commands.Command.{Command}
 use Rattle.query_words.specs.declared.commands.Command.TheVariants as commands
 use Rattle.query_words.specs.declared.commands.Key.{Key}
@@ -48,10 +48,6 @@ IsBudget = IsNumber 1 1_000_000_000_000
 -- any number of 64 bits
 abbrev pub IsSeed : List ℕ → ℕ → Type 0
 IsSeed = IsNumber 0 18_446_744_073_709_551_615
-
--- the literal of a moment of the calendar range, absolute or floating
-abbrev pub IsStamp : List ℕ → Stamp → Type 0
-IsStamp text stamp = Names text stamp.moment.0 stamp.absolute
 
 -- the texts of directions
 abbrev pub IsDir : List ℕ → Dir → Type 0

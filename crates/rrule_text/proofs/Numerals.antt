@@ -8,7 +8,8 @@ use Rattle.std.proofs.lemmas.Bool.{and_parts, and_right}
 use Rattle.std.proofs.lemmas.Bool.Decides.{nat_tests}
 use Rattle.std.proofs.lemmas.Fmt.{digits_decimal, digits_value-decimal, decimal_nonempty, length-decimal-le}
 use Rattle.std.proofs.lemmas.Int.{ints}
-use Rattle.rrule_text.specs.Numbers.{is_digits, digits_at, with_sign, number_at}
+use Rattle.moment_core.specs.Texts.{with_sign}
+use Rattle.rrule_text.specs.Numbers.{is_digits, digits_at, number_at}
 use Rattle.rrule_text.proofs.Digits.{own}
 
 pub decimal_digits : (n : ℕ) → n < 2 ^ 64 → list_all is_ascii_digit (decimal n) ≡ true

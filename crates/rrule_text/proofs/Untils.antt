@@ -1,5 +1,5 @@
 -- The moments that UNTIL names are found 400 years earlier.
-use Rattle.std.proofs.Common.{◌≡◌, ℕ, suc, ◌^◌, w32, to_z, of_z, ◌+◌, ◌<◌, ◌≤◌, ℤ, pos, neg_ℤ, ◌+ℤ◌, ◌-ℤ◌, ◌≤ℤ◌, Bool, true, false, ◌&&◌, nat_le, refl, sym, ap, ◌∙◌, arith}
+use Rattle.std.proofs.Common.{◌≡◌, ℕ, suc, ◌^◌, w32, to_z, of_z, ◌<◌, ◌≤◌, ℤ, pos, neg_ℤ, ◌+ℤ◌, ◌-ℤ◌, ◌≤ℤ◌, Bool, true, false, ◌&&◌, nat_le, refl, sym, ap, ◌∙◌, arith}
 use Rattle.std.specs.Prelude.{negsuc, unsigned_abs, if◌then◌else◌}
 use Rattle.std.specs.Int.{IsInRange}
 use Rattle.std.proofs.lemmas.Bool.Decides.{nat_tests}

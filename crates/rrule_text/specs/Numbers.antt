@@ -1,9 +1,10 @@
 -- Numbers and weekdays as they are written.
-use Rattle.std.specs.Prelude.{ℕ, ◌-◌, ◌==◌, nat_le, ℤ, pos, ◌-ℤ◌, Bool, true, false, ◌&&◌, List, [], ◌∷◌, length, take, drop, Option, Some, None, option_map, if◌then◌else◌}
+use Rattle.std.specs.Prelude.{ℕ, ◌-◌, ◌==◌, nat_le, ℤ, pos, Bool, true, false, ◌&&◌, List, [], ◌∷◌, length, take, drop, Option, Some, None, option_map, if◌then◌else◌}
 use Rattle.std.specs.Char.{is_ascii_digit}
 use Rattle.std.specs.List.{list_all}
 use Rattle.std.specs.Ordering.{int_eq}
 use Rattle.std.specs.Str.Parse.{digits_value}
+use Rattle.moment_core.specs.Texts.{with_sign}
 use Rattle.rule_core.specs.declared.lists.DayItem.{DayItem}
 use Rattle.rrule_text.specs.Names.{day_named}
 
@@ -11,10 +12,6 @@ use Rattle.rrule_text.specs.Names.{day_named}
 unfoldable pub is_digits : List ℕ → Bool
 is_digits bytes =
     nat_le 1 (length bytes) && nat_le (length bytes) 10 && list_all is_ascii_digit bytes
-
-abbrev pub with_sign : Bool → ℕ → ℤ
-with_sign false n = pos n
-with_sign true n = pos 0 -ℤ pos n
 
 unfoldable pub digits_at : Bool → List ℕ → Option ℤ
 digits_at minus digits =

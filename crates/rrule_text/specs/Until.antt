@@ -5,6 +5,7 @@ use Rattle.std.specs.List.{list_all}
 use Rattle.std.specs.Str.{bytes_eq}
 use Rattle.std.specs.Str.Parse.{digits_value}
 use Rattle.moment_core.specs.Calendar.{is_leap, month_len, year_of, month_of, day_of_month}
+use Rattle.moment_core.specs.Texts.{zone_text}
 use Rattle.moment_core.specs.TimeOfDay.{day_of, hour_of, minute_of, second_of, seconds_of}
 
 -- so many digits
@@ -68,9 +69,6 @@ until_at text =
 -- two digits
 abbrev pub two_digits : ℕ → List ℕ
 two_digits n = (48 + n / 10) ∷ (48 + n % 10) ∷ []
-
-abbrev pub zone_text : Bool → List ℕ
-zone_text absolute = if absolute then codes "Z" else []
 
 -- a date and a time of day, with a Z where they are absolute
 abbrev pub fields_text : Bool → (year month day hour minute second : ℕ) → List ℕ

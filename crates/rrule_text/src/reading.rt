@@ -1,4 +1,5 @@
 ghost use Rattle.std.specs.Prelude.{◌≡◌, [], option_map, IfOk};
+ghost use Rattle.rule_core.specs.declared.part.Part.TheVariants as parts;
 ghost use Rattle.std.specs.List.{list_any};
 ghost use Rattle.rrule_text.specs.Reading.{body_of, by_day_in, count_in, first_repeated, freq_in, interval_in, is_same, list_in, parts_in, repeated_after, rule_in, rule_of, sketch_of, until_in, until_z_in, value_of, week_start_in, without_end, without_prefix};
 ghost use Rattle.rrule_text.specs.Fault.{Tells};
@@ -156,9 +157,60 @@ fn week_start_in(body: &[u8]) -> Weekday
     }
 }
 
+/// The lists that say on which days the members are.
+#[derive(Drop)]
+struct DayLists {
+    by_month: Signed,
+    by_week: Signed,
+    by_year_day: Signed,
+    by_month_day: Signed,
+    by_day: DayItems,
+}
+
+/// The lists that say at which times of day they are, and which of them count.
+#[derive(Drop)]
+struct TimeLists {
+    by_hour: Signed,
+    by_minute: Signed,
+    by_second: Signed,
+    by_set_pos: Signed,
+}
+
+fn day_lists(alloc: Global, body: &[u8]) -> Result<DayLists, AllocError>
+    ensures { IfOk result (λ days. (days.by_month ≡ list_in parts.ByMonth body.now)
+        × (days.by_week ≡ list_in parts.ByWeekNo body.now)
+        × (days.by_year_day ≡ list_in parts.ByYearDay body.now)
+        × (days.by_month_day ≡ list_in parts.ByMonthDay body.now)
+        × (days.by_day ≡ by_day_in body.now)) }
+{
+    Ok(DayLists {
+        by_month: list_in(alloc, Part::ByMonth, body)?,
+        by_week: list_in(alloc, Part::ByWeekNo, body)?,
+        by_year_day: list_in(alloc, Part::ByYearDay, body)?,
+        by_month_day: list_in(alloc, Part::ByMonthDay, body)?,
+        by_day: by_day_in(alloc, body)?,
+    })
+}
+
+fn time_lists(alloc: Global, body: &[u8]) -> Result<TimeLists, AllocError>
+    ensures { IfOk result (λ times. (times.by_hour ≡ list_in parts.ByHour body.now)
+        × (times.by_minute ≡ list_in parts.ByMinute body.now)
+        × (times.by_second ≡ list_in parts.BySecond body.now)
+        × (times.by_set_pos ≡ list_in parts.BySetPos body.now)) }
+{
+    Ok(TimeLists {
+        by_hour: list_in(alloc, Part::ByHour, body)?,
+        by_minute: list_in(alloc, Part::ByMinute, body)?,
+        by_second: list_in(alloc, Part::BySecond, body)?,
+        by_set_pos: list_in(alloc, Part::BySetPos, body)?,
+    })
+}
+
 fn sketch(alloc: Global, body: &[u8], start: Stamp, freq: Freq) -> Result<IcalRule, AllocError>
     ensures { IfOk result (λ rule. rule ≡ sketch_of body.now start freq) }
 {
+    let days = day_lists(alloc, body)?;
+    let times = time_lists(alloc, body)?;
     Ok(IcalRule {
         freq,
         interval: interval_in(body),
@@ -166,15 +218,15 @@ fn sketch(alloc: Global, body: &[u8], start: Stamp, freq: Freq) -> Result<IcalRu
         until: until_in(body),
         until_z: until_z_in(body),
         count: count_in(body),
-        by_month: list_in(alloc, Part::ByMonth, body)?,
-        by_week: list_in(alloc, Part::ByWeekNo, body)?,
-        by_year_day: list_in(alloc, Part::ByYearDay, body)?,
-        by_month_day: list_in(alloc, Part::ByMonthDay, body)?,
-        by_day: by_day_in(alloc, body)?,
-        by_hour: list_in(alloc, Part::ByHour, body)?,
-        by_minute: list_in(alloc, Part::ByMinute, body)?,
-        by_second: list_in(alloc, Part::BySecond, body)?,
-        by_set_pos: list_in(alloc, Part::BySetPos, body)?,
+        by_month: days.by_month,
+        by_week: days.by_week,
+        by_year_day: days.by_year_day,
+        by_month_day: days.by_month_day,
+        by_day: days.by_day,
+        by_hour: times.by_hour,
+        by_minute: times.by_minute,
+        by_second: times.by_second,
+        by_set_pos: times.by_set_pos,
         week_start: week_start_in(body),
     })
 }

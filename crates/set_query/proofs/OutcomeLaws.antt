@@ -21,7 +21,7 @@ use Rattle.moment_core.specs.Line.{IsCalendarMoment, position_of}
 use Rattle.moment_core.specs.declared.line.Dir.{Dir}
 use Rattle.moment_core.specs.declared.line.Dir.TheVariants.{Fore, Back}
 use Rattle.phases.specs.Laws.{by_phase, then_phase}
-use Rattle.phases.specs.Phases.{By, IsPhase}
+use Rattle.phases.specs.Phases.{Anything, By, IsPhase}
 use Rattle.stored_pair.specs.Meanings.{Entries, Meaning}
 use Rattle.plan_core.specs.Plans.{window_of}
 use Rattle.query_core.specs.Laws.{NeighboursAreUnique, NeighboursExist, NeighboursHoldForEver}
@@ -76,9 +76,6 @@ one_report runs walks entries (Resume token limit budget) reading clock a b with
     one_walk (meant_of entries reading.trees.first) reading.sorts.first.kind clock token limit budget walks a b within.0 h k d e
 
 -- what is given to a phase behind the words: any text
-abbrev AnyText : List ℕ → Type 0
-AnyText text = Unit {0}
-
 -- the first tree is well formed, and its rules are lawful
 abbrev CanMean : Entries → Reading → Type 0
 CanMean entries reading = IsWellFormed reading.trees.first × AreLawful (meant_of entries reading.trees.first)
@@ -121,7 +118,7 @@ pub record Reads : Type 0 where
   pub one : FirstUnsettledIsOne
   pub apart : SettledHaveNone
 
-meant_phase : Reads → (entries : Entries) → IsPhase AnyText IsMeant (CanMean entries)
+meant_phase : Reads → (entries : Entries) → IsPhase Anything IsMeant (CanMean entries)
 meant_phase reads entries = record { some = λ text h. let read = reads.exist text in by_read text read.0 read.1; one = one; gives = gives }
   where
     by_read : (text : List ℕ) (r : Result Trees Fault) → IsRead text r → (m : Result Reading Refusal) × IsMeant text m
@@ -145,7 +142,7 @@ meant_phase reads entries = record { some = λ text h. let read = reads.exist te
         let same : fault ≡ other = cc in
         ap (λ (f : Fault). Err (text_refusal f)) same
 
-    gives : (text : List ℕ) (m : Reading) → AnyText text → IsMeant text (Ok m) → CanMean entries m
+    gives : (text : List ℕ) (m : Reading) → Anything text → IsMeant text (Ok m) → CanMean entries m
     gives text m h (sets _ k are) = let formed = (reads.well_formed text m.trees k).0 in (formed, reads.lawful entries m.trees.first formed)
 
 two_phase : (entries : Entries) (query : Query) → IsPhase (CanMean entries) (By (unless_two query)) (CanMean entries)
@@ -197,9 +194,9 @@ settle_phase reads entries query = record { some = λ x h. some query x (settles
     kept : (x y : OnClock) → Settles query x (Ok y) → x ≡ y
     kept x y (settled are) = refl
 
-all_phases : Reads → (entries : Entries) (query : Query) → IsPhase AnyText (Passes query) (CanMeanOn entries)
+all_phases : Reads → (entries : Entries) (query : Query) → IsPhase Anything (Passes query) (CanMeanOn entries)
 all_phases reads entries query =
-    then_phase IsMeant _ AnyText (CanMean entries) (CanMeanOn entries) (meant_phase reads entries)
+    then_phase IsMeant _ Anything (CanMean entries) (CanMeanOn entries) (meant_phase reads entries)
     (then_phase (Fits query) (Settles query) (CanMean entries) (CanMeanOn entries) (CanMeanOn entries)
     (then_phase (By (unless_two query)) (By (unless_clock query)) (CanMean entries) (CanMean entries) (CanMeanOn entries) (two_phase entries query) (clock_phase entries query))
     (settle_phase reads entries query))

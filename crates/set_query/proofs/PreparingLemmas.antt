@@ -23,7 +23,8 @@ use Rattle.moment_core.specs.declared.line.Clock.{Clock}
 use Rattle.moment_core.specs.declared.line.Stamp.{Stamp}
 use Rattle.query_core.specs.Answering.{AnswersOrStops, IsAnswered}
 use Rattle.run_search.specs.Places.{IsAmpleAt}
-use Rattle.query_words.specs.Words.{Asks, IsStamp, SayEach, SaysBudget, Tells, given, by_default}
+use Rattle.moment_text.specs.Literal.{IsStamp}
+use Rattle.query_words.specs.Words.{Asks, SayEach, SaysBudget, Tells, given, by_default}
 use Rattle.query_words.specs.declared.commands.Key.{Key}
 use Rattle.query_words.specs.declared.commands.Key.TheVariants.{From, To}
 use Rattle.query_words.specs.declared.queries.Query.{Query}

@@ -1,5 +1,4 @@
 pub mod Effects
-pub mod Fitting
 pub mod Laws
 pub mod Preparing
 pub mod Reading

@@ -1,8 +1,7 @@
 //! A walk over a set.
 
 ghost use Rattle.std.specs.Prelude.{◌≤◌};
-ghost use Rattle.span_core.specs.Tokens.{IsFit};
-ghost use Rattle.set_query.specs.Fitting.{IsFit-prop};
+ghost use Rattle.span_core.specs.Tokens.{IsFit, IsFit-prop};
 
 use expr_tree::Kind;
 use moment_core::Clock;

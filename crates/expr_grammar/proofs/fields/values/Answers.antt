@@ -1,7 +1,7 @@
 use Rattle.std.proofs.Common.{◌≡◌, ◌∙◌, FitsSigned, w64, to_z, of_z, refl, sym, ap, arith, rules}
 use Rattle.std.proofs.lemmas.Int.{to_z-of_z}
 use Rattle.expr_tokens.specs.Plain.{plains}
-use Rattle.expr_grammar.specs.Parsing.{values_at, with_key}
+use Rattle.expr_grammar.specs.Parsing.{with_key}
 use Rattle.expr_grammar.proofs.FieldLoop.{next_read, none_read}
 use Rattle.expr_grammar.proofs.fields.values.Goals as goal
 
