@@ -1,5 +1,5 @@
 -- What a rule of RFC 5545 (3.3.10) means: its members, its candidates and its frame.
-use Rattle.std.specs.Prelude.{◌≡◌, ℕ, zero, suc, ◌==◌, ℤ, pos, ◌+ℤ◌, ◌-ℤ◌, unsigned_abs, int_le, Bool, true, ◌&&◌, ◌||◌, Option, Some, None, option_map, if◌then◌else◌}
+use Rattle.std.specs.Prelude.{◌≡◌, ℕ, zero, suc, ◌==◌, ℤ, pos, ◌+ℤ◌, ◌-ℤ◌, unsigned_abs, int_le, Bool, true, ◌&&◌, ◌||◌, Option, Some, None, if◌then◌else◌}
 use Rattle.std.specs.Ordering.{int_eq}
 use Rattle.frame_core.specs.Frames.{framed}
 use Rattle.frame_core.specs.Periods.{period_of_rule}

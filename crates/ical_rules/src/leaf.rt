@@ -2,7 +2,7 @@ ghost use Rattle.ical_rules.specs.Leaves.{HasCounted, IsFramed, IsFramed-prop, h
 
 use frame_core::Frame;
 use moment_core::{Moment, Step};
-use sieve_core::{Sieve, sieve_laws};
+use sieve_core::{KnownRanks, Sieve, sieve_laws};
 use stored_pair::{Recurrence, recurrence_laws};
 
 /// A rule of RFC 5545 made ready to be searched.
@@ -19,7 +19,12 @@ pub struct IcalLeaf {
 }
 
 impl IcalLeaf {
-    ghost use Rattle.std.specs.Prelude.{◌≡◌};
+    ghost use Rattle.std.specs.Prelude.{◌≡◌, IfSome};
+    ghost use Rattle.moment_core.specs.Line.{IsWorkingMoment};
+    ghost use Rattle.moment_core.specs.Steps.{IsNext};
+    ghost use Rattle.sieve_core.specs.Known.{IsKnown};
+    ghost use Rattle.sieve_core.specs.Members.{is_candidate};
+    ghost use Rattle.stored_pair.specs.Recurrences.{SkipsNoMember};
 
     /// The rule with the sieve, UNTIL, COUNT and the frame.
     pub(crate) fn new(
@@ -41,6 +46,21 @@ impl IcalLeaf {
             count,
             frame,
         }
+    }
+
+    /// The same step as that of `after`, by what an earlier one left of the ranks, or None.
+    pub(crate) fn after_known(&self, t: Moment, known: &mut Option<KnownRanks>) -> Step
+        requires moment { IsWorkingMoment t.0 }
+        requires known { IfSome known.old (IsKnown self.now.sieve) }
+        ensures next { IsNext (has_counted self.now.sieve self.now.until self.now.count)
+            (is_candidate self.now.sieve) t.0 result }
+        ensures members { SkipsNoMember
+            (has_counted self.now.sieve self.now.until self.now.count) t.0 result }
+        ensures known { IfSome known.new (IsKnown self.now.sieve) }
+    {
+        sieve_laws();
+        recurrence_laws();
+        self.sieve.after_known(t, known)
     }
 }
 

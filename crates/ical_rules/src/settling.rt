@@ -12,7 +12,7 @@ use crate::outcome::{Settled, Unsettled};
 use moment_core::{Moment, Step};
 use rule_core::{IcalRule, rule_laws};
 use sieve_tables::lowering_laws;
-use stored_pair::{Recurrence, recurrence_laws};
+use stored_pair::recurrence_laws;
 
 /// Where a rule's COUNT ends it, sought among its first `budget` candidates from DTSTART on, the
 /// rule taken without its COUNT.
@@ -52,13 +52,14 @@ fn number_of(rule: &IcalRule) -> Option<u64>
     rule.count.map(|count| count.unsigned_abs())
 }
 
-// The last member of a rule, sought in a recurrence that has the members and the candidates of the
-// rule without its COUNT.
-fn settle_in<R: Recurrence>(rule: &IcalRule, leaf: &R, budget: u64) -> Result<Settled, Unsettled>
+// The last member of a rule, sought in one made ready that has the members and the candidates of
+// the rule without its COUNT.
+fn settle_in(rule: &IcalRule, leaf: &IcalLeaf, budget: u64) -> Result<Settled, Unsettled>
     requires checked { check_ical rule.now ≡ Ok tt }
     requires start { IsCalendarMoment (start_of rule.now) }
     requires budget { 1 ≤ budget }
-    requires leaf { AreUncounted rule.now (R.has leaf.now) (R.cand leaf.now) }
+    requires leaf { AreUncounted rule.now
+        (has_counted leaf.now.sieve leaf.now.until leaf.now.count) (is_candidate leaf.now.sieve) }
     ensures { IsSettling rule.now budget result }
 {
     rule_laws();
@@ -89,21 +90,18 @@ fn just_before(t: Moment) -> Moment
 }
 
 // The member with the number `count` from the start on, sought among the first `budget` candidates.
-fn search<R: Recurrence>(
-    leaf: &R,
-    start: Moment,
-    count: u64,
-    budget: u64,
-) -> Result<Settled, Unsettled>
+fn search(leaf: &IcalLeaf, start: Moment, count: u64, budget: u64) -> Result<Settled, Unsettled>
     requires start { IsCalendarMoment start.0 }
     requires count { 0 < count }
     requires budget { 0 < budget }
-    ensures { IsOutcome (R.has leaf.now) (R.cand leaf.now) start.0 count budget result }
+    ensures { IsOutcome (has_counted leaf.now.sieve leaf.now.until leaf.now.count)
+        (is_candidate leaf.now.sieve) start.0 count budget result }
 {
     let mut at = just_before(start);
     let mut members = 0;
+    let mut known = None;
     for _passed in 0..budget {
-        match leaf.after(at) {
+        match leaf.after_known(at, &mut known) {
             Step::End => return Ok(Settled::Open),
             Step::Pass(next) => at = next,
             Step::Hit(next) => {
@@ -115,7 +113,7 @@ fn search<R: Recurrence>(
             }
         }
     }
-    match leaf.after(at) {
+    match leaf.after_known(at, &mut known) {
         Step::End => Ok(Settled::Open),
         _ => Err(Unsettled { passed: budget, at }),
     }

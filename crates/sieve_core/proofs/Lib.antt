@@ -2,6 +2,7 @@ pub mod BitLemmas
 pub mod CandidateLemmas
 pub mod CountLemmas
 pub mod CycleLemmas
+pub mod KnownLemmas
 pub mod LeastLemmas
 pub mod RankLemmas
 pub mod RuleLemmas

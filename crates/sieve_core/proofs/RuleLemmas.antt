@@ -23,15 +23,10 @@ pub meets_interval_of_one : (s : Sieve) (t : ℤ) → s.interval ≡ 1 → meets
 unfolding meets_interval
 meets_interval_of_one s t e = rw e (divides-one _)
 
--- where the tests are met, the interval and the rank decide
-pub meets_rule_met : (s : Sieve) (t : ℤ) → meets_tests s t ≡ true → meets_rule s t ≡ (meets_interval s t && meets_rank s t)
-unfolding meets_rule
-meets_rule_met s t e = rw e refl
-
--- and between the ends the rule
-pub has-between : (s : Sieve) (t : ℤ) → is_between s t ≡ true → has s t ≡ meets_rule s t
+-- between the ends the rule decides
+pub has_between : (s : Sieve) (t : ℤ) → is_between s t ≡ true → has s t ≡ meets_rule s t
 unfolding has
-has-between s t e = rw e refl
+has_between s t e = rw e refl
 
 pub member_is_candidate : (s : Sieve) (t : ℤ) → has s t ≡ true → is_candidate s t ≡ true
 unfolding has is_candidate is_mark meets_rule

@@ -1,6 +1,7 @@
 pub mod Bits
 pub mod Dates
 pub mod Days
+pub mod Known
 pub mod Laws
 pub mod Members
 pub mod Nearest

@@ -1,7 +1,7 @@
-ghost use Rattle.std.specs.Prelude.{◌≡◌, ◌↔◌, ◌<◌, ◌≤◌, ℕ, ℤ, pos, ◌*ℤ◌, ◌+ℤ◌, true, false, IsTrue};
+ghost use Rattle.std.specs.Prelude.{◌≡◌, ◌↔◌, ◌<◌, ◌≤◌, ℕ, ℤ, pos, ◌*ℤ◌, ◌+ℤ◌, true, false, IsTrue, IfSome, IfNone};
 ghost use Rattle.moment_core.specs.Line.{IsWorkingMoment};
 ghost use Rattle.moment_core.specs.Sets.{ahead, seen};
-ghost use Rattle.moment_core.specs.Steps.{IsNext, IsNextStep, IsPrevious};
+ghost use Rattle.moment_core.specs.Steps.{IsNext, IsNextCandidate, IsNextStep, IsPrevious, NoCandidateLeft};
 ghost use Rattle.moment_core.specs.TimeOfDay.{day_of, second_of_day};
 ghost use Rattle.moment_core.specs.declared.line.Dir.TheVariants.{Fore, Back};
 ghost use Rattle.sieve_core.specs.Days.{meets_days};
@@ -16,9 +16,9 @@ use moment_core::{Dir, Moment, Step, in_work};
 
 // A moment at which a search stops, and whether it is known to meet the tests.
 #[derive(Clone, Copy)]
-struct Near {
-    moment: Moment,
-    met: bool,
+pub(crate) struct Near {
+    pub moment: Moment,
+    pub met: bool,
 }
 
 // The next midnight past a moment that isn't one.
@@ -122,7 +122,17 @@ impl Sieve {
         }
     }
 
+    // Whether it meets the tests.
+    pub(crate) fn is_met(&self, near: Near) -> bool
+        requires moment { IsWorkingMoment near.moment.0 }
+        requires met { near.met ≡ true → meets_tests self.now near.moment.0 ≡ true }
+        ensures { result ≡ meets_tests self.now near.moment.0 }
+    {
+        near.met || self.meets_tests(near.moment)
+    }
+
     // Whether it is a member.
+    #[tactic(auto, using(crate::proofs::RuleLemmas::has_between), unfolding(crate::specs::Members::meets_rule))]
     fn is_member(&self, near: Near) -> bool
         requires sieve { IsSieve self.now }
         requires moment { IsWorkingMoment near.moment.0 }
@@ -130,10 +140,29 @@ impl Sieve {
         requires met { near.met ≡ true → meets_tests self.now near.moment.0 ≡ true }
         ensures { result ≡ has self.now near.moment.0 }
     {
-        if near.met {
-            self.meets_turn(near.moment)
+        self.is_met(near) && self.meets_turn(near.moment)
+    }
+
+    // The nearest candidate past a moment, not yet tested.
+    #[inline(always)]
+    pub(crate) fn next_near(&self, dir: Dir, t: Moment) -> Option<Near>
+        requires { IsWorkingMoment t.0 }
+        ensures next { IfSome result
+            (λ near. IsNextCandidate (is_candidate self.now) dir t.0 near.moment.0) }
+        ensures between { IfSome result (λ near. is_between self.now near.moment.0 ≡ true) }
+        ensures met { IfSome result
+            (λ near. near.met ≡ true → meets_tests self.now near.moment.0 ≡ true) }
+        ensures none { IfNone result (NoCandidateLeft (is_candidate self.now) dir t.0) }
+    {
+        let start = self.start(dir, t);
+        if !self.is_open(start) {
+            return None;
+        }
+        let near = self.nearest(dir, start);
+        if self.is_open(near.moment) {
+            Some(near)
         } else {
-            self.meets_rule(near.moment)
+            None
         }
     }
 
@@ -143,19 +172,15 @@ impl Sieve {
         requires moment { IsWorkingMoment t.0 }
         ensures { IsNextStep (has self.now) (is_candidate self.now) dir t.0 result }
     {
-        let start = self.start(dir, t);
-        if !self.is_open(start) {
-            return Step::End;
-        }
-        let near = self.nearest(dir, start);
-        let u = near.moment;
-        if !self.is_open(u) {
-            return Step::End;
-        }
-        if self.is_member(near) {
-            Step::Hit(u)
-        } else {
-            Step::Pass(u)
+        match self.next_near(dir, t) {
+            None => Step::End,
+            Some(near) => {
+                if self.is_member(near) {
+                    Step::Hit(near.moment)
+                } else {
+                    Step::Pass(near.moment)
+                }
+            }
         }
     }
 

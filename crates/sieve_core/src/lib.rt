@@ -5,6 +5,7 @@
 mod bits;
 mod candidates;
 mod days;
+mod known;
 mod laws;
 mod members;
 mod ranks;
@@ -12,6 +13,7 @@ mod tables;
 mod times;
 mod units;
 
+pub use known::KnownRanks;
 pub use laws::sieve_laws;
 pub use moment_core::{Step, Unit};
 pub use tables::{DayTest, RankSet, Sieve};

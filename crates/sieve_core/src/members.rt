@@ -47,7 +47,7 @@ impl Sieve {
 
     // Whether the time of day and the day are met.
     #[tactic(auto, using(crate::proofs::RuleLemmas::meets_tests_by_time))]
-    fn meets_tests(&self, t: Moment) -> bool
+    pub(crate) fn meets_tests(&self, t: Moment) -> bool
         requires { IsWorkingMoment t.0 }
         ensures { result ≡ meets_tests self.now t.0 }
     {

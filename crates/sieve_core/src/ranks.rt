@@ -167,7 +167,7 @@ impl Sieve {
     }
 
     // The rank among the moments of one unit, or some number that is as high as matters.
-    fn rank(&self, dir: Dir, t: Moment, cap: usize) -> usize
+    pub(crate) fn rank(&self, dir: Dir, t: Moment, cap: usize) -> usize
         requires { IsWorkingMoment t.0 }
         ensures { IsCapped cap (rank_of self.now dir t.0) result }
     {

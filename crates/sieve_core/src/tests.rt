@@ -441,6 +441,46 @@ fn walks_meet_the_members_of_hours_minutes_and_seconds_both_ways(rt: HostRuntime
     );
 }
 
+// The last member among so many candidates after the moment, by a search that takes its ranks
+// along.
+fn last_known(sieve: &Sieve, from: Moment, candidates: u32) -> i64
+    requires sieve { IsSieve sieve.now }
+    requires moment { IsWorkingMoment from.0 }
+{
+    let mut at = from;
+    let mut last = 0;
+    let mut known = None;
+    for _ in 0..candidates {
+        match sieve.after_known(at, &mut known) {
+            Step::Hit(t) => {
+                at = t;
+                last = t.0;
+            }
+            Step::Pass(t) => at = t,
+            Step::End => return last,
+        }
+    }
+    last
+}
+
+fn meets_known(rt: &impl Abort, sieve: Sieve, from: i64, candidates: u32, last: i64) {
+    let from = Moment(from);
+    assert!(rt; is_sieve(&sieve));
+    assert!(rt; in_work(from));
+    assert_eq!(rt; last_known(&sieve, from, candidates), last);
+}
+
+#[test]
+fn a_search_that_takes_its_ranks_along_meets_the_same_members(rt: HostRuntime) {
+    // the last workday but one of the month
+    let hours = (1 << 9, 1, 1);
+    let month = ranked(Unit::Month, on_weekdays(0b111110), hours, ranks(386, 386));
+    meets_known(&rt, month, 875_523_600, 180, 883_472_400);
+    // the hundredth workday of the year
+    let year = ranked(Unit::Year, on_weekdays(0b111110), MIDNIGHT, ranks(100, 100));
+    meets_known(&rt, year, -62_469_705_600, 800, -62_407_670_400);
+}
+
 #[test]
 fn walks_meet_the_members_of_ranks_both_ways(rt: HostRuntime) {
     // the last workday but one of the month

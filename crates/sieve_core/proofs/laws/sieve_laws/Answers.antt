@@ -1,7 +1,7 @@
 use Rattle.sieve_core.proofs.BitLemmas.{has_bit-set, has_bit-word}
 use Rattle.sieve_core.proofs.CandidateLemmas.{between-from, between-parts}
 use Rattle.sieve_core.proofs.CycleLemmas.{meets_rule-cycles}
-use Rattle.sieve_core.proofs.RuleLemmas.{candidate-between, has-between, member_is_candidate}
+use Rattle.sieve_core.proofs.RuleLemmas.{candidate-between, has_between, member_is_candidate}
 use Rattle.sieve_core.proofs.laws.sieve_laws.Goals as goal
 
 pub returns-clause-repeats : goal.returns-clause-repeats
@@ -14,7 +14,7 @@ pub returns-clause-ends : goal.returns-clause-ends
 returns-clause-ends c s t e = between-parts s t (candidate-between s t e)
 
 pub returns-clause-between : goal.returns-clause-between
-returns-clause-between c s t low high = has-between s t (between-from s t low high)
+returns-clause-between c s t low high = has_between s t (between-from s t low high)
 
 pub returns-clause-word : goal.returns-clause-word
 returns-clause-word c = has_bit-word
