@@ -8,12 +8,13 @@ use Rattle.std.proofs.lemmas.List.Folds.{list_all-append, list_any-append}
 use Rattle.std.proofs.Math.Seq.{drop-append_seam}
 use Rattle.rule_core.specs.declared.part.Part.{Part}
 use Rattle.rule_core.specs.declared.part.Part.TheVariants as parts
+use Rattle.rrule_values.specs.Laws.{is_value_byte}
+use Rattle.rrule_values.specs.Splitting.{behind, split_at}
 use Rattle.rrule_text.specs.Names.{key_of}
-use Rattle.rrule_text.specs.Pieces.{is_of, is_piece, is_value, part_of_piece, split_at, value_in}
+use Rattle.rrule_text.specs.Pieces.{is_of, is_piece, is_value, part_of_piece, value_in}
 use Rattle.rrule_text.specs.Reading.{is_same, parts_in, first_repeated, repeated_after, value_of}
 use Rattle.rrule_text.specs.Writing.{behind_sign, part_text, piece_text}
-use Rattle.rrule_text.proofs.Splitting.{next_of}
-use Rattle.rrule_text.proofs.Words.{spoken}
+use Rattle.rrule_text.proofs.Bytes.{spoken, value_spoken}
 
 -- a part, and its value where it is written
 abbrev pub Entry : Type 0
@@ -27,11 +28,11 @@ abbrev pub pieces_of : List Entry → List (List ℕ)
 pieces_of [] = []
 pieces_of (x ∷ xs) = piece_before x.0 x.1 (pieces_of xs)
 
-pub text_joined : (xs : List Entry) → flat_map part_text xs ≡ flat_map (next_of 59) (pieces_of xs)
+pub text_joined : (xs : List Entry) → flat_map part_text xs ≡ flat_map (behind 59) (pieces_of xs)
 text_joined [] = refl
 text_joined (x ∷ xs) = one x.0 x.1 (flat_map part_text xs) (pieces_of xs) (text_joined xs)
   where
-    one : (part : Part) (o : Option (List ℕ)) (rest : List ℕ) (ps : List (List ℕ)) → rest ≡ flat_map (next_of 59) ps → behind_sign part o ++ rest ≡ flat_map (next_of 59) (piece_before part o ps)
+    one : (part : Part) (o : Option (List ℕ)) (rest : List ℕ) (ps : List (List ℕ)) → rest ≡ flat_map (behind 59) ps → behind_sign part o ++ rest ≡ flat_map (behind 59) (piece_before part o ps)
     one part None rest ps e = e
     one part (Some value) rest ps e = ap (λ (y : List ℕ). (59 ∷ piece_text part value) ++ y) e
 
@@ -174,7 +175,7 @@ nothing_repeated xs body split keys new each = rw (split, parts_are xs keys) (no
 -- a value is of its part's form, and no byte of it ends the piece
 pub record Fits (part : Part) (value : List ℕ) : Type 0 where
   pub form : is_value part value ≡ true
-  pub clean : list_all spoken value ≡ true
+  pub plain : list_all is_value_byte value ≡ true
 
 abbrev pub FitsIf : Part → Option (List ℕ) → Type 0
 FitsIf part None = Unit {0}
@@ -215,9 +216,9 @@ key_spoken parts.BySetPos = refl
 key_spoken parts.Wkst = refl
 key_spoken part = refl
 
-pub piece_spoken : (part : Part) (value : List ℕ) → list_all spoken value ≡ true → list_all spoken (piece_text part value) ≡ true
+pub piece_spoken : (part : Part) (value : List ℕ) → list_all is_value_byte value ≡ true → list_all spoken (piece_text part value) ≡ true
 piece_spoken part value each =
-    list_all-append spoken (key_of part) value ∙ and_from (list_all spoken (key_of part)) (list_all spoken value) (key_spoken part) each
+    list_all-append spoken (key_of part) value ∙ and_from (list_all spoken (key_of part)) (list_all spoken value) (key_spoken part) (value_spoken value each)
 
 pub pieces_spoken : (xs : List Entry) → AllFit xs → list_all (λ p. list_all spoken p) (pieces_of xs) ≡ true
 pieces_spoken [] fit = refl
@@ -225,7 +226,7 @@ pieces_spoken (x ∷ xs) fit = one x.0 x.1 (pieces_of xs) fit.0 (pieces_spoken x
   where
     one : (part : Part) (o : Option (List ℕ)) (ps : List (List ℕ)) → FitsIf part o → list_all (λ p. list_all spoken p) ps ≡ true → list_all (λ p. list_all spoken p) (piece_before part o ps) ≡ true
     one part None ps fit each = each
-    one part (Some value) ps fit each = and_from (list_all spoken (piece_text part value)) (list_all (λ p. list_all spoken p) ps) (piece_spoken part value fit.clean) each
+    one part (Some value) ps fit each = and_from (list_all spoken (piece_text part value)) (list_all (λ p. list_all spoken p) ps) (piece_spoken part value fit.plain) each
 
 some_piece : (part : Part) (value : List ℕ) → has_key part ≡ true → nat_lt 0 (length (piece_text part value)) ≡ true
 some_piece part value key =

@@ -1,14 +1,5 @@
-pub mod Digits
+pub mod Bytes
 pub mod Entries
-pub mod Lists
-pub mod Numerals
-pub mod Ordered
 pub mod ReadBack
-pub mod Splitting
-pub mod UntilText
-pub mod UntilValues
-pub mod Untils
 pub mod Values
-pub mod Weekdays
-pub mod Words
 pub mod Writable

@@ -1,10 +1,6 @@
 pub mod Fault
-pub mod Items
 pub mod Laws
 pub mod Names
-pub mod Numbers
-pub mod Ordering
 pub mod Pieces
 pub mod Reading
-pub mod Until
 pub mod Writing

@@ -1,15 +1,14 @@
 -- The pieces of a text, each `NAME=VALUE`.
-use Rattle.std.specs.Prelude.{ℕ, ◌==◌, nat_eq, Bool, true, false, List, length, drop, Option, Some, None, is_some}
-use Rattle.std.specs.List.{find, list_all, slice_split, starts_with}
+use Rattle.std.specs.Prelude.{ℕ, nat_eq, Bool, true, false, List, length, drop, Option, Some, None, is_some}
+use Rattle.std.specs.List.{find, list_all, starts_with}
 use Rattle.rule_core.specs.declared.part.Part.{Part}
 use Rattle.rule_core.specs.declared.part.Part.TheVariants as parts
-use Rattle.rrule_text.specs.Names.{day_named, key_of, parts_of_text, freq_named}
-use Rattle.rrule_text.specs.Numbers.{number_at, item_at}
-use Rattle.rrule_text.specs.Until.{is_until_text}
-
--- what stands between the signs
-abbrev pub split_at : ℕ → List ℕ → List (List ℕ)
-split_at sign bytes = slice_split (λ b. b == sign) bytes
+use Rattle.rrule_values.specs.Lists.{are_items, are_numbers}
+use Rattle.rrule_values.specs.Names.{day_named, freq_named}
+use Rattle.rrule_values.specs.Numbers.{number_at}
+use Rattle.rrule_values.specs.Splitting.{split_at}
+use Rattle.rrule_values.specs.Until.{is_until_text}
+use Rattle.rrule_text.specs.Names.{key_of, parts_of_text}
 
 -- the piece begins with the part's name and a `=`
 unfoldable pub is_of : Part → List ℕ → Bool
@@ -22,13 +21,6 @@ part_of_piece piece = find (λ part. is_of part piece) parts_of_text
 -- what stands behind the name
 abbrev pub value_in : Part → List ℕ → List ℕ
 value_in part piece = drop (length (key_of part)) piece
-
--- one or more numbers, with signs where they are allowed, and one or more weekdays
-abbrev pub are_numbers : Bool → List ℕ → Bool
-are_numbers signed value = list_all (λ text. is_some (number_at signed text)) (split_at 44 value)
-
-abbrev pub are_items : List ℕ → Bool
-are_items value = list_all (λ text. is_some (item_at text)) (split_at 44 value)
 
 -- the parts whose numbers may have a sign
 abbrev pub has_signs : Part → Bool

@@ -12,13 +12,15 @@ use Rattle.rule_core.specs.declared.part.Part.{Part}
 use Rattle.rule_core.specs.declared.part.Part.TheVariants as parts
 use Rattle.rule_core.specs.declared.part.RuleFault.{RuleFault}
 use Rattle.rule_core.specs.IcalChecks.{check_ical}
+use Rattle.rrule_values.specs.Lists.{items_in, numbers_in}
+use Rattle.rrule_values.specs.Names.{day_named, freq_named}
+use Rattle.rrule_values.specs.Numbers.{number_at}
+use Rattle.rrule_values.specs.Splitting.{split_at}
+use Rattle.rrule_values.specs.Until.{ends_with_z, until_at}
 use Rattle.rrule_text.specs.Fault.{Fault}
 use Rattle.rrule_text.specs.Fault as faults
-use Rattle.rrule_text.specs.Names.{day_named, key_of, freq_named}
-use Rattle.rrule_text.specs.Numbers.{number_at}
-use Rattle.rrule_text.specs.Until.{ends_with_z, until_at}
-use Rattle.rrule_text.specs.Items.{items_in, numbers_in}
-use Rattle.rrule_text.specs.Pieces.{split_at, is_of, part_of_piece, value_in, are_pieces, has_signs}
+use Rattle.rrule_text.specs.Names.{key_of}
+use Rattle.rrule_text.specs.Pieces.{is_of, part_of_piece, value_in, are_pieces, has_signs}
 
 -- without a prefix, and without a sign at the end
 unfoldable pub without_prefix : List ℕ → List ℕ

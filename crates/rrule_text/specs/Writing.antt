@@ -4,24 +4,17 @@ use Rattle.std.specs.Fmt.{signed_decimal}
 use Rattle.std.specs.Ordering.{int_eq}
 use Rattle.moment_core.specs.declared.line.Moment.{Moment}
 use Rattle.rule_core.specs.declared.ical.IcalRule.{IcalRule}
-use Rattle.rule_core.specs.declared.lists.DayItem.{DayItem}
 use Rattle.rule_core.specs.declared.part.Part.{Part}
 use Rattle.rule_core.specs.declared.part.Part.TheVariants as parts
-use Rattle.rrule_text.specs.Names.{key_of, freq_name, day_name}
-use Rattle.rrule_text.specs.Until.{until_text}
+use Rattle.rrule_values.specs.Names.{day_name, freq_name}
+use Rattle.rrule_values.specs.Until.{until_text}
+use Rattle.rrule_values.specs.Writing.{item_text, list_text}
+use Rattle.rrule_text.specs.Names.{key_of}
 
--- the weekday's name, behind its ordinal where it has one
-abbrev pub item_text : DayItem → List ℕ
-item_text item =
-    (if int_eq item.nth (pos 0) then [] else signed_decimal item.nth) ++ day_name item.day
-
--- what is listed, with a comma between each two
-abbrev pub next_text : {X : Type 0} → (X → List ℕ) → X → List ℕ
-next_text text x = 44 ∷ text x
-
-abbrev pub list_text : {X : Type 0} → (X → List ℕ) → List X → Option (List ℕ)
-list_text text [] = None
-list_text text (x ∷ xs) = Some (text x ++ flat_map (next_text text) xs)
+-- a list is written where there is something in it
+abbrev pub listed_text : {X : Type 0} → (X → List ℕ) → List X → Option (List ℕ)
+listed_text text [] = None
+listed_text text (x ∷ xs) = Some (list_text text (x ∷ xs))
 
 -- INTERVAL where it isn't 1, and WKST where it isn't MO
 abbrev pub interval_text : ℤ → Option (List ℕ)
@@ -40,19 +33,19 @@ limits_of r =
 
 abbrev pub days_of : IcalRule → List (Part × Option (List ℕ))
 days_of r =
-    (parts.ByMonth, list_text signed_decimal r.by_month)
-    ∷ (parts.ByWeekNo, list_text signed_decimal r.by_week)
-    ∷ (parts.ByYearDay, list_text signed_decimal r.by_year_day)
-    ∷ (parts.ByMonthDay, list_text signed_decimal r.by_month_day)
-    ∷ (parts.ByDay, list_text item_text r.by_day)
+    (parts.ByMonth, listed_text signed_decimal r.by_month)
+    ∷ (parts.ByWeekNo, listed_text signed_decimal r.by_week)
+    ∷ (parts.ByYearDay, listed_text signed_decimal r.by_year_day)
+    ∷ (parts.ByMonthDay, listed_text signed_decimal r.by_month_day)
+    ∷ (parts.ByDay, listed_text item_text r.by_day)
     ∷ []
 
 abbrev pub times_of : IcalRule → List (Part × Option (List ℕ))
 times_of r =
-    (parts.ByHour, list_text signed_decimal r.by_hour)
-    ∷ (parts.ByMinute, list_text signed_decimal r.by_minute)
-    ∷ (parts.BySecond, list_text signed_decimal r.by_second)
-    ∷ (parts.BySetPos, list_text signed_decimal r.by_set_pos)
+    (parts.ByHour, listed_text signed_decimal r.by_hour)
+    ∷ (parts.ByMinute, listed_text signed_decimal r.by_minute)
+    ∷ (parts.BySecond, listed_text signed_decimal r.by_second)
+    ∷ (parts.BySetPos, listed_text signed_decimal r.by_set_pos)
     ∷ (parts.Wkst, week_start_text r.week_start)
     ∷ []
 

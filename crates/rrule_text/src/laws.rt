@@ -1,5 +1,6 @@
 ghost use Rattle.rrule_text.specs.Laws.{RulesAreWritable, WrittenIsPlain, WrittenIsRead};
 
+use rrule_values::value_laws;
 use rule_core::rule_laws;
 
 /// The laws of the texts of rules: a call has no effect, and a proof cites its clauses.
@@ -12,4 +13,5 @@ pub fn text_laws()
     ensures plain { WrittenIsPlain }
 {
     rule_laws();
+    value_laws();
 }

@@ -2,13 +2,10 @@
 #![tactic(auto)]
 
 mod fault;
-mod items;
 mod laws;
 mod names;
-mod numbers;
 mod pieces;
 mod reading;
-mod until;
 mod writing;
 
 pub use fault::RruleFault;

@@ -1,9 +1,8 @@
 ghost use Rattle.std.specs.Prelude.{◌≡◌, is_some};
-ghost use Rattle.rrule_text.specs.Pieces.{are_items, are_numbers, are_pieces, has_signs, is_piece, is_value, value_in};
+ghost use Rattle.rrule_text.specs.Pieces.{are_pieces, has_signs, is_piece, is_value, value_in};
 
-use crate::names::{day_named, freq_named, key, part_of_piece};
-use crate::numbers::{item, number};
-use crate::until::is_until_text;
+use crate::names::{key, part_of_piece};
+use rrule_values::{are_items, are_numbers, day_named, freq_named, is_until_text, number};
 use rule_core::Part;
 
 // What stands behind the part's name.
@@ -11,20 +10,6 @@ pub(crate) fn value_in(part: Part, piece: &[u8]) -> &[u8]
     ensures { result.now ≡ value_in part piece.now }
 {
     piece.get(key(part).len()..).unwrap_or(&[])
-}
-
-fn are_items(value: &[u8]) -> bool
-    ensures { result ≡ are_items value.now }
-{
-    value.split(|b| *b == b',').all(|text| item(text).is_some())
-}
-
-fn are_numbers(signed: bool, value: &[u8]) -> bool
-    ensures { result ≡ are_numbers signed value.now }
-{
-    value
-        .split(|b| *b == b',')
-        .all(|text| number(signed, text).is_some())
 }
 
 /// Whether the numbers of the part may have a sign.

@@ -6,13 +6,11 @@ ghost use Rattle.rrule_text.specs.Fault.{Tells};
 ghost use Rattle.rrule_text.specs.Laws.{IsReadWith};
 
 use crate::fault::RruleFault;
-use crate::items::{items_in, numbers_in};
 use crate::laws::text_laws;
-use crate::names::{day_named, freq_named, is_of, key, part_of_piece};
-use crate::numbers::number;
+use crate::names::{is_of, key, part_of_piece};
 use crate::pieces::{are_pieces, has_signs, value_in};
-use crate::until::{ends_with_z, until_at};
 use moment_core::{Moment, Stamp, Weekday};
+use rrule_values::{day_named, ends_with_z, freq_named, items_in, number, numbers_in, until_at};
 use rule_core::{DayItems, Freq, IcalRule, Part, Signed};
 use std::alloc::{AllocError, Global};
 

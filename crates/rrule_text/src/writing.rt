@@ -6,73 +6,17 @@ ghost use Rattle.rule_core.specs.IcalChecks.{is_until};
 ghost use Rattle.rule_core.specs.WrittenForm.{AreWeekdays, HasWeekdays, IsWritable};
 ghost use Rattle.std.specs.Int.{IsInRange};
 ghost use Rattle.rrule_text.specs.Reading.{rule_of};
-ghost use Rattle.rrule_text.specs.Until.{until_text};
 ghost use Rattle.rule_core.specs.declared.part.Part.TheVariants as parts;
-ghost use Rattle.rrule_text.specs.Names.{day_name};
-ghost use Rattle.rrule_text.specs.Writing.{behind_sign, days_of, interval_text, item_text, limits_of, list_text, next_text, others_of, part_text, text_of, times_of, week_start_text};
+ghost use Rattle.rrule_values.specs.Until.{until_text};
+ghost use Rattle.rrule_values.specs.Writing.{item_text};
+ghost use Rattle.rrule_text.specs.Writing.{behind_sign, days_of, interval_text, limits_of, listed_text, others_of, part_text, text_of, times_of, week_start_text};
 
 use crate::laws::text_laws;
-use crate::names::{freq_name, key};
-use crate::until::put_date_time;
-use itoa::Buffer;
+use crate::names::key;
 use moment_core::{Moment, Weekday};
+use rrule_values::{day_name, freq_name, put_date_time, put_number};
 use rule_core::{DayItem, IcalRule, Part, rule_laws};
 use std::alloc::{AllocError, Global};
-
-fn day_name(day: Weekday) -> &'static [u8]
-    ensures name { result.now ≡ day_name day }
-    ensures weekday { IsInRange 1 7 day }
-{
-    match day.number() {
-        1 => b"MO",
-        2 => b"TU",
-        3 => b"WE",
-        4 => b"TH",
-        5 => b"FR",
-        6 => b"SA",
-        _ => b"SU",
-    }
-}
-
-fn put_number(out: &mut Vec<u8>, number: i64) -> Result<(), AllocError>
-    ensures { OnOk result (out.new.items ≡ out.old.items ++ signed_decimal number) }
-{
-    out.extend_from_slice(Buffer::new().format(number).as_bytes())
-}
-
-fn put_item(out: &mut Vec<u8>, item: &DayItem) -> Result<(), AllocError>
-    ensures weekday { OnOk result (IsInRange 1 7 item.now.day) }
-    ensures text { OnOk result (out.new.items ≡ out.old.items ++ item_text item.now) }
-{
-    if item.nth != 0 {
-        put_number(out, item.nth)?;
-    }
-    out.extend_from_slice(day_name(item.day))
-}
-
-#[tactic(auto, using(crate::proofs::Weekdays::weekdays_none))]
-fn put_more_items(out: &mut Vec<u8>, items: &[DayItem]) -> Result<(), AllocError>
-    ensures weekdays { OnOk result (AreWeekdays items.now) }
-    ensures text { OnOk result (out.new.items
-        ≡ out.old.items ++ flat_map (next_text item_text) items.now) }
-{
-    for item in items {
-        out.extend_from_slice(b",")?;
-        put_item(out, item)?;
-    }
-    Ok(())
-}
-
-fn put_more_numbers(out: &mut Vec<u8>, numbers: &[i64]) -> Result<(), AllocError>
-    ensures { OnOk result (out.new.items
-        ≡ out.old.items ++ flat_map (next_text signed_decimal) numbers.now) }
-{
-    for number in numbers {
-        out.extend_from_slice(b",")?;
-        put_number(out, *number)?;
-    }
-    Ok(())
-}
 
 // A semicolon and the name of the part.
 fn put_key(out: &mut Vec<u8>, part: Part) -> Result<(), AllocError>
@@ -82,30 +26,27 @@ fn put_key(out: &mut Vec<u8>, part: Part) -> Result<(), AllocError>
     out.extend_from_slice(key(part))
 }
 
-#[tactic(auto, using(crate::proofs::Weekdays::weekdays_first, crate::proofs::Weekdays::weekdays_none))]
 fn put_items(out: &mut Vec<u8>, items: &[DayItem]) -> Result<(), AllocError>
     ensures weekdays { OnOk result (AreWeekdays items.now) }
     ensures text { OnOk result (out.new.items
-        ≡ out.old.items ++ behind_sign parts.ByDay (list_text item_text items.now)) }
+        ≡ out.old.items ++ behind_sign parts.ByDay (listed_text item_text items.now)) }
 {
-    let Some((first, others)) = items.split_first() else {
+    if items.is_empty() {
         return Ok(());
-    };
+    }
     put_key(out, Part::ByDay)?;
-    put_item(out, first)?;
-    put_more_items(out, others)
+    rrule_values::put_items(out, items)
 }
 
 fn put_numbers(out: &mut Vec<u8>, part: Part, numbers: &[i64]) -> Result<(), AllocError>
     ensures { OnOk result (out.new.items
-        ≡ out.old.items ++ behind_sign part (list_text signed_decimal numbers.now)) }
+        ≡ out.old.items ++ behind_sign part (listed_text signed_decimal numbers.now)) }
 {
-    let Some((first, others)) = numbers.split_first() else {
+    if numbers.is_empty() {
         return Ok(());
-    };
+    }
     put_key(out, part)?;
-    put_number(out, *first)?;
-    put_more_numbers(out, others)
+    rrule_values::put_numbers(out, numbers)
 }
 
 fn put_until(out: &mut Vec<u8>, until: Option<Moment>, with_z: bool) -> Result<(), AllocError>

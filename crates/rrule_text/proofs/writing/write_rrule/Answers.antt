@@ -1,7 +1,7 @@
 use Rattle.rule_core.specs.declared.part.Part.TheVariants as parts
 use Rattle.rule_core.specs.IcalChecks.{is_bad_part}
 use Rattle.rrule_text.proofs.ReadBack.{back_if_written}
-use Rattle.rrule_text.proofs.UntilValues.{until_fine}
+use Rattle.rrule_text.proofs.Values.{until_fine}
 use Rattle.rrule_text.proofs.writing.write_rrule.Goals as goal
 
 pub written-requires : goal.written-requires

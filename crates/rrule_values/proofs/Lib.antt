@@ -1,0 +1,11 @@
+pub mod Digits
+pub mod Listed
+pub mod Numerals
+pub mod Ordered
+pub mod Splitting
+pub mod UntilText
+pub mod UntilValues
+pub mod Untils
+pub mod Values
+pub mod Weekdays
+pub mod Words
