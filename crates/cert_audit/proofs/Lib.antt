@@ -1,8 +1,13 @@
-mod Ampleness
-pub mod Counting
-mod Days
-pub mod Framing
+pub mod Edges
+pub mod Halves
+pub mod Lawfulness
 pub mod Listing
+pub mod Looking
+pub mod Moving
+pub mod Nearness
+pub mod Passing
+pub mod Readying
+pub mod Rooms
 pub mod RuleTurning
 pub mod Settling
 pub mod Sweeping

@@ -1,12 +1,10 @@
-pub mod Ample
-pub mod Candidates
-pub mod Due
-pub mod Lawful
 pub mod Laws
 pub mod Lowered
+pub mod Modest
 pub mod Nodes
+pub mod Room
+pub mod Searchable
 pub mod Searches
 pub mod Settling
 pub mod Stamped
-pub mod TreeFrames
 pub mod Turns

@@ -10,9 +10,9 @@ use Rattle.expr_tree.specs.Members.{is_member}
 use Rattle.expr_tree.specs.Sorts.{sort_of_tree}
 use Rattle.expr_tree.specs.Tree.{Rule, Tree, Joined}
 use Rattle.expr_tree.specs.WellFormed.{IsWellFormed}
-use Rattle.cert_audit.specs.Due.{IsDue}
+use Rattle.search_core.specs.Due.{IsDue}
 use Rattle.cert_audit.specs.Nodes.{meant_of_node}
-use Rattle.cert_audit.specs.TreeFrames.{frame_of_tree}
+use Rattle.search_core.specs.TreeFrames.{frame_of_tree}
 use Rattle.cert_audit.specs.declared.lowering.Ready.{Ready}
 
 -- a tree that has a sort

@@ -3,7 +3,7 @@ use Rattle.stored_pair.specs.Meanings.{Meaning}
 use Rattle.field_rules.specs.Lowered.{meaning_of_leaf}
 use Rattle.ical_rules.specs.Lowered.{meaning_of_leaf as meaning_of_ical_leaf}
 use Rattle.expr_tree.specs.Lists.{meaning_of_list}
-use Rattle.expr_tree.specs.Tree.{Tree, Empty, Spanned, Ruled, Joined, Not}
+use Rattle.expr_tree.specs.Tree.{Tree, Empty, Spanned, Ruled, Joined, Not, During, Pairs, Starts, Ends, Shift}
 use Rattle.cert_audit.specs.declared.nodes.Node.{Node}
 use Rattle.cert_audit.specs.declared.nodes.Node.TheVariants as nodes
 
@@ -15,3 +15,8 @@ meant_of_node (nodes.Field leaf) = Ruled (meaning_of_leaf leaf)
 meant_of_node (nodes.Ical leaf) = Ruled (meaning_of_ical_leaf leaf)
 meant_of_node (nodes.Joined' op x a y b) = Joined op (meant_of_node a) (meant_of_node b)
 meant_of_node (nodes.Not' x a) = Not (meant_of_node a)
+meant_of_node (nodes.During' x a seconds) = During (meant_of_node a) seconds.0
+meant_of_node (nodes.Pairs' x a y b) = Pairs (meant_of_node a) (meant_of_node b)
+meant_of_node (nodes.Starts' x a) = Starts (meant_of_node a)
+meant_of_node (nodes.Ends' x a) = Ends (meant_of_node a)
+meant_of_node (nodes.Shift' x a seconds) = Shift (meant_of_node a) seconds.0

@@ -1,9 +1,9 @@
 -- Whether the counts of a tree's rules are settled, each within so many candidates.
-use Rattle.std.specs.Prelude.{◌⊎◌, Result, Ok, Err}
+use Rattle.std.specs.Prelude.{◌⊎◌, Ok, Err}
 use Rattle.ical_rules.specs.Settling.{IsSettling}
 use Rattle.ical_rules.specs.declared.outcome.Settled.{Settled}
 use Rattle.ical_rules.specs.declared.outcome.Unsettled.{Unsettled}
-use Rattle.expr_tree.specs.Tree.{Rule, Listed, Field, Ical, Tree, Empty, Spanned, Ruled, Joined, Not}
+use Rattle.expr_tree.specs.Tree.{Rule, Listed, Field, Ical, Tree, Empty, Spanned, Ruled, Joined, Not, During, Pairs, Starts, Ends, Shift}
 use Rattle.cert_audit.specs.declared.lowering.PlanFault.{PlanFault}
 use Rattle.cert_audit.specs.declared.lowering.PlanFault.TheVariants.{Settle, Memory}
 use Rattle.cert_audit.specs.declared.lowering.TheConstants.{SETTLE_LIMIT}
@@ -17,6 +17,11 @@ AreSettled (Ruled (Field rule)) = Unit {0}
 AreSettled (Ruled (Ical rule)) = (settled : Settled) × IsSettling rule SETTLE_LIMIT (Ok settled)
 AreSettled (Joined op a b) = AreSettled a × AreSettled b
 AreSettled (Not a) = AreSettled a
+AreSettled (During a seconds) = AreSettled a
+AreSettled (Pairs a b) = AreSettled a × AreSettled b
+AreSettled (Starts a) = AreSettled a
+AreSettled (Ends a) = AreSettled a
+AreSettled (Shift a seconds) = AreSettled a
 
 -- the first rule of the tree, left before right, for which it isn't
 abbrev pub IsFirstUnsettled : Tree Rule → Unsettled → Type 0
@@ -27,6 +32,11 @@ IsFirstUnsettled (Ruled (Field rule)) u = ⊥
 IsFirstUnsettled (Ruled (Ical rule)) u = IsSettling rule SETTLE_LIMIT (Err u)
 IsFirstUnsettled (Joined op a b) u = IsFirstUnsettled a u ⊎ (AreSettled a × IsFirstUnsettled b u)
 IsFirstUnsettled (Not a) u = IsFirstUnsettled a u
+IsFirstUnsettled (During a seconds) u = IsFirstUnsettled a u
+IsFirstUnsettled (Pairs a b) u = IsFirstUnsettled a u ⊎ (AreSettled a × IsFirstUnsettled b u)
+IsFirstUnsettled (Starts a) u = IsFirstUnsettled a u
+IsFirstUnsettled (Ends a) u = IsFirstUnsettled a u
+IsFirstUnsettled (Shift a seconds) u = IsFirstUnsettled a u
 
 -- the fault of a tree that has such a rule; want of memory is none of the tree's
 abbrev pub IsFaultOf : Tree Rule → PlanFault → Type 0

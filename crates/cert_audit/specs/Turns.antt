@@ -1,5 +1,6 @@
 -- The nearest place at which a set may change.
-use Rattle.std.specs.Prelude.{◌≡◌, ◌+◌, ◌≤◌, ℕ, ℤ, pos, ◌+ℤ◌, ◌-ℤ◌, Bool, true, ◌||◌, int_lt, Option, Some, None, if◌then◌else◌}
+use Rattle.std.specs.Prelude.{◌≡◌, ◌+◌, ◌≤◌, ℕ, ℤ, pos, ◌+ℤ◌, ◌-ℤ◌, Bool, true, false, ◌&&◌, ◌||◌, int_lt, Option, Some, None, if◌then◌else◌}
+use Rattle.std.specs.Ordering.{int_eq}
 use Rattle.moment_core.specs.Line.{IsWorkingMoment, moment_of, position_of}
 use Rattle.moment_core.specs.Sets.{ahead, seen, IsUpTo}
 use Rattle.moment_core.specs.declared.line.Dir.{Dir}
@@ -7,6 +8,7 @@ use Rattle.moment_core.specs.declared.line.Dir.TheVariants.{Fore, Back}
 use Rattle.moment_core.specs.declared.line.Pos.{Pos}
 use Rattle.moment_core.specs.declared.line.Step.{Step}
 use Rattle.moment_core.specs.declared.line.Step.TheVariants.{Hit, Pass, End}
+use Rattle.span_core.specs.Bounds.{is_moment}
 use Rattle.cert_audit.specs.declared.turns.Turn.{Turn}
 
 -- q lies past p in the direction
@@ -31,6 +33,13 @@ nearer_turn dir a b =
     else if is_past dir b.place.0 a.place.0 then a
     else record { place = a.place; counts = a.counts || b.counts }
 
+-- one more for a turn that counts, where its candidate lies past the place, or where the search
+-- begins there
+abbrev pub passed_by : ℕ → Dir → ℤ → ℤ → Turn → ℕ
+passed_by passed dir p place turn =
+    if turn.counts && (int_eq place p || is_past dir (candidate_at dir turn.place.0) place)
+    then passed + 1 else passed
+
 -- nothing changes for n steps, and the turn is at the step after them, which is not past the end
 pub record TurnsAfter (set : ℤ → Bool) (dir : Dir) (p end : ℤ) (turn : Turn) (n : ℕ) : Type 0 where
   pub place : turn.place.0 ≡ ahead dir p (n + 1)
@@ -53,6 +62,32 @@ StandsIfCounted candidate dir None = Unit {0}
 abbrev pub turn_up_to : Dir → Pos → Pos → Option Turn
 turn_up_to dir place end =
     if is_past dir place.0 end.0 then None else Some (record { place = place; counts = true })
+
+-- the set keeps its value for so many steps as both of the others do
+abbrev pub Follows : (f g h : ℤ → Bool) → Dir → ℤ → Type 0
+Follows f g h dir p =
+    (n : ℕ) → ((k : ℕ) → k ≤ n → seen f dir p k ≡ f p)
+    → ((k : ℕ) → k ≤ n → seen g dir p k ≡ g p) → seen h dir p n ≡ h p
+
+-- the set has moments alone, and none round which the other one stays the same
+pub record IsEdge (f h : ℤ → Bool) : Type 0 where
+  pub at_open : (p : ℤ) → is_moment p ≡ false → h p ≡ false
+  pub round : (p : ℤ) → f (p -ℤ pos 1) ≡ f p → f (p +ℤ pos 1) ≡ f p → h p ≡ false
+
+-- the open second at p, or the one next to it that lies before it in the direction
+abbrev pub open_before : Dir → ℤ → ℤ
+open_before Fore p = if is_moment p then p -ℤ pos 1 else p
+open_before Back p = if is_moment p then p +ℤ pos 1 else p
+
+-- the moment of a turn at q, or where that is p itself the position next to it
+abbrev pub edge_at : Dir → ℤ → ℤ → ℤ
+edge_at dir p q = if int_eq (candidate_at dir q) p then ahead dir p 1 else candidate_at dir q
+
+-- the turn there, where it isn't past the end
+abbrev pub edge_up_to : Dir → Turn → Pos → Pos → Option Turn
+edge_up_to dir turn place end =
+    if is_past dir place.0 end.0 then None
+    else Some (record { place = place; counts = turn.counts })
 
 -- the candidate of a step lies in the working range, and its turn
 abbrev pub IsWorkingStep : Step → Type 0

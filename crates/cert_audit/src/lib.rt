@@ -2,19 +2,20 @@
 //! keeps nothing.
 #![tactic(auto)]
 
-mod ends;
+mod asking;
 mod frames;
 mod laws;
 mod leaves;
 mod lowering;
 mod moments;
 mod nodes;
+mod places;
 mod search;
 #[cfg(test)]
 mod tests;
 mod turns;
 
 pub use frames::frame_of;
-pub use laws::{ample_laws, candidate_laws, ready_laws, settle_laws, tree_frame_laws};
+pub use laws::{lawful_laws, ready_laws, settle_laws};
 pub use lowering::{PlanFault, Ready, SETTLE_LIMIT};
 pub use search::sweep;

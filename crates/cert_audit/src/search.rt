@@ -1,25 +1,25 @@
-ghost use Rattle.std.specs.Prelude.{◌≡◌, ◌≤◌, ◌<◌, ◌+◌, ◌^◌, IfSome};
+ghost use Rattle.std.specs.Prelude.{◌≡◌, ◌≤◌};
 ghost use Rattle.moment_core.specs.Line.{IsCalendarPosition};
 ghost use Rattle.span_core.specs.Answers.{end_of};
 ghost use Rattle.cert_audit.specs.Lowered.{members_of, window_of_ready};
-ghost use Rattle.cert_audit.specs.Searches.{AnswersAt, passed_by, unchanged};
-ghost use Rattle.cert_audit.specs.Turns.{candidate_at};
+ghost use Rattle.cert_audit.specs.Searches.{AnswersAt, unchanged};
 
-use crate::ends::one_after;
 use crate::frames::frame_of;
-use crate::laws::tree_frame_laws;
 use crate::lowering::Ready;
-use crate::turns::{Turn, is_past, next_turn};
+use crate::turns::with_candidate;
 use frame_core::{window, window_laws};
-use moment_core::{Dir, HIGH, LOW, Pos, Steps, Window, floor};
+use moment_core::{Dir, HIGH, LOW, Pos, Steps, Window};
+use search_core::{candidate_laws, counting_laws, tree_frame_laws};
 use span_core::{Answer, Stop};
 use std::sync::ledger::Ledger;
 
 /// Looks for the nearest position past `p`, in the direction, whose membership differs, asking
 /// every node anew at each step.
 ///
-/// `At`, `None` and `Edge` are the answer. `Budget` comes only where nothing differs from `p` up to
-/// the stop, which is not past the search's end, and at least `budget` candidates lie between.
+/// `At`, `None` and `Edge` are the answer. `Budget` with node 0 comes only where nothing differs
+/// from `p` up to the stop, which is not past the search's end, and at least `budget` candidates
+/// lie between. With another node it comes only where that one had to look back from a place of
+/// the search, with as many candidates and no member on the way.
 pub fn sweep<L: Ledger>(r: &Ready, p: Pos, dir: Dir, budget: u64, steps: &mut Steps<L>) -> Answer
     requires range { IsCalendarPosition p.0 }
     requires budget { 1 ≤ budget }
@@ -28,16 +28,24 @@ pub fn sweep<L: Ledger>(r: &Ready, p: Pos, dir: Dir, budget: u64, steps: &mut St
 {
     tree_frame_laws();
     window_laws();
+    counting_laws();
+    candidate_laws();
     let window = window_of(r, p, dir);
     let end = search_end(window, dir);
-    let here = r.root.holds(p, steps);
+    let here = match r.holds(p, budget, steps) {
+        Ok(here) => here,
+        Err(stop) => return Answer::Budget(stop),
+    };
     let mut place = p;
     let mut passed = 0;
     'turns: loop {
-        let Some(turn) = next_turn(&r.root, place, dir, end, steps) else {
+        let Some(turn) = r.next_turn(place, dir, end, steps) else {
             return without_change(window);
         };
-        let there = r.root.holds(turn.place, steps);
+        let there = match r.holds(turn.place, budget, steps) {
+            Ok(there) => there,
+            Err(stop) => return Answer::Budget(stop),
+        };
         if there != here {
             return Answer::At(turn.place);
         }
@@ -78,29 +86,5 @@ fn search_end(window: Option<Window>, dir: Dir) -> Pos
         (Some(window), Dir::Back) => window.lo,
         (None, Dir::Fore) => Pos(2 * HIGH),
         (None, Dir::Back) => Pos(2 * LOW),
-    }
-}
-
-/// One more for a turn that counts, where its candidate wasn't passed before.
-fn with_candidate(passed: u64, dir: Dir, p: Pos, place: Pos, turn: Turn) -> u64
-    requires room { passed + 1 < 2 ^ 64 }
-    requires turn { IsCalendarPosition turn.place.0 }
-    ensures { result ≡ passed_by passed dir p.0 place.0 turn }
-{
-    if turn.counts && (place == p || is_past(dir, candidate_at(dir, turn.place), place)) {
-        passed + 1
-    } else {
-        passed
-    }
-}
-
-/// Of a position and the one before it in the direction, the one that is a moment.
-fn candidate_at(dir: Dir, q: Pos) -> Pos
-    requires { IsCalendarPosition q.0 }
-    ensures { result.0 ≡ candidate_at dir q.0 }
-{
-    match dir {
-        Dir::Fore => Pos(2 * floor(q).0),
-        Dir::Back => Pos(2 * floor(one_after(q)).0),
     }
 }

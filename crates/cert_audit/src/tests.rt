@@ -39,6 +39,16 @@ enum Sketch {
     Two(Leaf, Join, Leaf),
     InverseOfOne(Leaf),
     InverseOfTwo(Leaf, Join, Leaf),
+    During(Leaf, i64),
+    DuringTwo(Leaf, Join, Leaf, i64),
+    Pairs(Leaf, Leaf),
+    /// The pairs of two leaves joined and a third.
+    PairsOfTwo(Leaf, Join, Leaf, Leaf),
+    /// A leaf, and the pairs of two leaves joined and a third, either.
+    BesidePairs(Leaf, (Leaf, Join, Leaf, Leaf)),
+    StartsOf(Leaf),
+    EndsOf(Leaf),
+    Shift(Leaf, i64),
 }
 
 fn is_moment(moment: Moment) -> bool
@@ -134,6 +144,56 @@ fn inverse(alloc: Global, a: Expr) -> Result<Expr, Fail>
     Ok(Expr::Not(Box::new(alloc, a)?))
 }
 
+fn during(alloc: Global, a: Expr, seconds: i64) -> Result<Expr, Fail>
+    requires { IsWellFormed (tree_of a) }
+    ensures { IfOk result (λ e. IsWellFormed (tree_of e)) }
+{
+    Ok(Expr::During(Box::new(alloc, a)?, seconds))
+}
+
+fn pairs(alloc: Global, opens: Expr, closes: Expr) -> Result<Expr, Fail>
+    requires opens { IsWellFormed (tree_of opens) }
+    requires closes { IsWellFormed (tree_of closes) }
+    ensures { IfOk result (λ e. IsWellFormed (tree_of e)) }
+{
+    let opens = Box::new(alloc, opens)?;
+    Ok(Expr::Pairs(opens, Box::new(alloc, closes)?))
+}
+
+/// The pairs of two leaves joined and a third.
+fn pairs_of_two(
+    rt: &impl Abort,
+    alloc: Global,
+    opens: (Leaf, Join, Leaf),
+    closes: Leaf,
+) -> Result<Expr, Fail>
+    ensures { IfOk result (λ e. IsWellFormed (tree_of e)) }
+{
+    let opens = two(rt, alloc, opens.0, opens.1, opens.2)?;
+    pairs(alloc, opens, leaf_of(rt, alloc, closes)?)
+}
+
+fn starts(alloc: Global, a: Expr) -> Result<Expr, Fail>
+    requires { IsWellFormed (tree_of a) }
+    ensures { IfOk result (λ e. IsWellFormed (tree_of e)) }
+{
+    Ok(Expr::Starts(Box::new(alloc, a)?))
+}
+
+fn ends(alloc: Global, a: Expr) -> Result<Expr, Fail>
+    requires { IsWellFormed (tree_of a) }
+    ensures { IfOk result (λ e. IsWellFormed (tree_of e)) }
+{
+    Ok(Expr::Ends(Box::new(alloc, a)?))
+}
+
+fn shift(alloc: Global, a: Expr, seconds: i64) -> Result<Expr, Fail>
+    requires { IsWellFormed (tree_of a) }
+    ensures { IfOk result (λ e. IsWellFormed (tree_of e)) }
+{
+    Ok(Expr::Shift(Box::new(alloc, a)?, seconds))
+}
+
 fn set_of(rt: &impl Abort, alloc: Global, sketch: Sketch) -> Result<Expr, Fail>
     ensures { IfOk result (λ e. IsWellFormed (tree_of e)) }
 {
@@ -143,6 +203,23 @@ fn set_of(rt: &impl Abort, alloc: Global, sketch: Sketch) -> Result<Expr, Fail>
         Sketch::Two(a, join, b) => two(rt, alloc, a, join, b),
         Sketch::InverseOfOne(a) => inverse(alloc, leaf_of(rt, alloc, a)?),
         Sketch::InverseOfTwo(a, join, b) => inverse(alloc, two(rt, alloc, a, join, b)?),
+        Sketch::During(a, seconds) => during(alloc, leaf_of(rt, alloc, a)?, seconds),
+        Sketch::DuringTwo(a, join, b, seconds) => {
+            during(alloc, two(rt, alloc, a, join, b)?, seconds)
+        }
+        Sketch::Pairs(a, b) => {
+            let opens = leaf_of(rt, alloc, a)?;
+            pairs(alloc, opens, leaf_of(rt, alloc, b)?)
+        }
+        Sketch::PairsOfTwo(a, join, b, closes) => pairs_of_two(rt, alloc, (a, join, b), closes),
+        Sketch::BesidePairs(first, (a, join, b, closes)) => {
+            let first = leaf_of(rt, alloc, first)?;
+            let pairs = pairs_of_two(rt, alloc, (a, join, b), closes)?;
+            Ok(joined(alloc, first, Join::Union, pairs)?)
+        }
+        Sketch::StartsOf(a) => starts(alloc, leaf_of(rt, alloc, a)?),
+        Sketch::EndsOf(a) => ends(alloc, leaf_of(rt, alloc, a)?),
+        Sketch::Shift(a, seconds) => shift(alloc, leaf_of(rt, alloc, a)?, seconds),
     }
 }
 
@@ -188,9 +265,13 @@ fn answer(rt: &impl Abort, r: &Ready, p: Pos, dir: Dir, budget: u64) -> Answer {
     search::<Brand>(rt, r, p, dir, budget, blank).0
 }
 
-fn member(rt: &impl Abort, r: &Ready, p: Pos) -> bool {
+fn test(rt: &impl Abort, r: &Ready, p: Pos, budget: u64) -> Test {
     let blank = Blank::new(1);
-    search::<Brand>(rt, r, p, Dir::Fore, 1, blank).1 == Test::In
+    search::<Brand>(rt, r, p, Dir::Fore, budget, blank).1
+}
+
+fn member(rt: &impl Abort, r: &Ready, p: Pos) -> bool {
+    test(rt, r, p, 1000) == Test::In
 }
 
 /// The position so many steps on.
@@ -248,6 +329,8 @@ fn agree(rt: &impl Abort, r: &Ready, first: Pos)
 enum Want {
     /// A search from the position, that way and with the budget, has the answer.
     Answer(Pos, Dir, u64, Answer),
+    /// With the budget the position is told so.
+    Test(Pos, u64, Test),
     /// Searches from the position on find what asking each position finds.
     Agreement(Pos),
     /// The set doesn't change from `hi` upwards and from `lo` downwards.
@@ -262,6 +345,9 @@ fn meets(rt: &impl Abort, r: &Ready, want: Want) {
                 want,
                 "{dir:?} from {from:?}"
             );
+        }
+        Want::Test(p, budget, want) => {
+            assert_eq!(rt; test(rt, r, p, budget), want, "at {p:?} with {budget}");
         }
         Want::Agreement(first) => {
             assert!(rt; is_in_range(first));
@@ -400,11 +486,86 @@ fn a_search_finds_what_asking_each_position_finds(rt: HostRuntime) -> Result<(),
             Join::Minus,
             Leaf::List(Moment(2), Moment(2)),
         ),
+        Sketch::During(Leaf::List(Moment(0), Moment(3)), 2),
+        Sketch::Pairs(
+            Leaf::List(Moment(0), Moment(5)),
+            Leaf::List(Moment(2), Moment(9)),
+        ),
+        Sketch::StartsOf(Leaf::Span(Bound::Open(Moment(5)), Bound::Closed(Moment(9)))),
+        Sketch::EndsOf(Leaf::Span(Bound::Open(Moment(5)), Bound::Closed(Moment(9)))),
+        Sketch::Shift(
+            Leaf::Span(Bound::Closed(Moment(0)), Bound::Open(Moment(5))),
+            -1,
+        ),
     ];
     for set in SETS {
         holds(&rt, rt.alloc(), *set, Want::Agreement(Pos(-5)))?;
     }
     Ok(())
+}
+
+#[test]
+fn sets_made_from_sets_change_where_their_definitions_say(rt: HostRuntime) -> Result<(), Fail> {
+    const LASTING: Sketch = Sketch::During(Leaf::List(Moment(0), Moment(3)), 2);
+    const PAIRED: Sketch = Sketch::Pairs(
+        Leaf::List(Moment(0), Moment(5)),
+        Leaf::List(Moment(0), Moment(9)),
+    );
+    const LATE: Leaf = Leaf::Span(Bound::Open(Moment(5)), Bound::Closed(Moment(9)));
+    const EARLY: Leaf = Leaf::Span(Bound::Closed(Moment(0)), Bound::Open(Moment(5)));
+    const ROWS: &[(Sketch, i64, i64)] = &[
+        (LASTING, -5, 0),
+        (LASTING, 0, 4),
+        (LASTING, 4, 6),
+        (LASTING, 6, 10),
+        (PAIRED, -5, 0),
+        (PAIRED, 0, 18),
+        (Sketch::StartsOf(LATE), -5, 10),
+        (Sketch::StartsOf(EARLY), -5, 0),
+        (Sketch::EndsOf(LATE), -5, 18),
+        (Sketch::EndsOf(EARLY), -5, 10),
+        (Sketch::Shift(EARLY, -1), -5, -2),
+    ];
+    for (set, from, to) in ROWS {
+        let found = Want::Answer(Pos(*from), Dir::Fore, 1000, Answer::At(Pos(*to)));
+        holds(&rt, rt.alloc(), *set, found)?;
+    }
+    Ok(())
+}
+
+#[test]
+fn looking_back_stops_once_the_candidates_are_as_many_as_the_budget(
+    rt: HostRuntime,
+) -> Result<(), Fail> {
+    const FROM: Pos = Pos(24);
+    const MOMENTS: Leaf = Leaf::List(Moment(0), Moment(10));
+    const FAR: Leaf = Leaf::List(Moment(-1000), Moment(-1000));
+    const LASTING: Sketch = Sketch::DuringTwo(MOMENTS, Join::Minus, MOMENTS, 20);
+    const PAIRED: Sketch = Sketch::PairsOfTwo(MOMENTS, Join::Minus, MOMENTS, FAR);
+    const BESIDE: Sketch = Sketch::BesidePairs(FAR, (MOMENTS, Join::Minus, MOMENTS, FAR));
+    const NEVER: Window = Window {
+        lo: Pos(24),
+        hi: Pos(26),
+    };
+    const STOPS: &[(Sketch, u64, i64, u32)] = &[
+        (LASTING, 1, 20, 1),
+        (PAIRED, 1, 20, 1),
+        (PAIRED, 2, 0, 1),
+        (BESIDE, 2, 0, 3),
+    ];
+    for (set, budget, at, node) in STOPS {
+        let stop = Stop {
+            at: Pos(*at),
+            node: *node,
+        };
+        let search = Want::Answer(FROM, Dir::Fore, *budget, Answer::Budget(stop));
+        holds(&rt, rt.alloc(), *set, search)?;
+        let test = Want::Test(FROM, *budget, Test::Budget(stop));
+        holds(&rt, rt.alloc(), *set, test)?;
+    }
+    let search = Want::Answer(FROM, Dir::Fore, 3, Answer::None(NEVER));
+    holds(&rt, rt.alloc(), PAIRED, search)?;
+    holds(&rt, rt.alloc(), PAIRED, Want::Test(FROM, 3, Test::Out))
 }
 
 #[test]

@@ -1,18 +1,25 @@
-ghost use Rattle.std.specs.Prelude.{◌≡◌, ℤ, ◌≤◌, ◌≤ℤ◌, Bool, ◌||◌, int_le};
+ghost use Rattle.std.specs.Prelude.{◌≡◌, ℕ, ℤ, ◌+◌, ◌<◌, ◌≤◌, ◌^◌, ◌-ℤ◌, ◌≤ℤ◌, Bool, ◌||◌, int_le, unsigned_abs};
 ghost use Rattle.std.specs.Ordering.{int_eq};
-ghost use Rattle.moment_core.specs.Line.{IsCalendarPosition, moment_of, position_of};
+ghost use Rattle.moment_core.specs.Line.{moment_of, position_of};
 ghost use Rattle.moment_core.specs.Sets.{moments_in};
 ghost use Rattle.moment_core.specs.declared.line.Dir.TheVariants.{Fore, Back};
 ghost use Rattle.moment_core.specs.declared.line.TheConstants.{LOW};
 ghost use Rattle.span_core.specs.Bounds.{IsGiven, ends_after, lies_between, reaches};
-ghost use Rattle.expr_tree.specs.Members.{is_member};
-ghost use Rattle.cert_audit.specs.Candidates.{bounds_at, is_bound_at, is_candidate};
+ghost use Rattle.expr_tree.specs.Members.{is_member, lasts_at};
+ghost use Rattle.expr_tree.specs.Sorts.{reach_of};
+ghost use Rattle.expr_tree.specs.Sound.{HasMomentsAlone, IsSound};
+ghost use Rattle.expr_tree.specs.Tree.{During};
+ghost use Rattle.search_core.specs.Candidates.{bounds_at, is_bound_at, is_candidate};
 ghost use Rattle.cert_audit.specs.Nodes.{meant_of_node};
-ghost use Rattle.cert_audit.specs.Turns.{IsTurn, IsWorkingStep, StandsIfCounted, crossed, is_past, nearer_turn, turn_of_step, turn_up_to};
+ghost use Rattle.cert_audit.specs.Room.{HasRoom, IsWorkingPosition};
+ghost use Rattle.cert_audit.specs.Turns.{Follows, IsEdge, IsTurn, IsWorkingStep, StandsIfCounted, crossed, edge_at, edge_up_to, nearer_turn, passed_by, turn_of_step, turn_up_to};
 
-use crate::ends::{one_after, one_before};
 use crate::leaves::Leaf;
 use crate::nodes::Node;
+use crate::places::{
+    Seconds, candidate_at, earlier, is_past, later, next, one_after, one_before, open_before,
+};
+use expr_tree::member_laws;
 use moment_core::{Dir, Pos, Step, Steps, floor, of};
 use span_core::{Bound, Span, bound_laws};
 use std::sync::ledger::Ledger;
@@ -28,6 +35,7 @@ pub(crate) struct Turn {
 
 /// The nearest place past `p`, up to the end, at which a leaf of the tree may change; None where
 /// nothing changes up to there.
+#[cycle(next_turn)]
 pub(crate) fn next_turn<L: Ledger>(
     node: &Node,
     p: Pos,
@@ -35,24 +43,132 @@ pub(crate) fn next_turn<L: Ledger>(
     end: Pos,
     steps: &mut Steps<L>,
 ) -> Option<Turn>
-    requires here { IsCalendarPosition p.0 }
-    requires there { IsCalendarPosition end.0 }
+    requires sound { IsSound (meant_of_node node.now) }
+    requires here { HasRoom (reach_of (meant_of_node node.now)) p.0 }
+    requires there { HasRoom (reach_of (meant_of_node node.now)) end.0 }
     ensures turn { IsTurn (is_member (meant_of_node node.now)) dir p.0 end.0 result }
     ensures counts { StandsIfCounted (is_candidate (meant_of_node node.now)) dir result }
     ensures counted { steps.old ≤ steps.new }
 {
+    member_laws();
     match node {
         Node::Empty => None,
         Node::List(moments) => leaf_turn(moments, p, dir, end, steps),
         Node::Span(span, _, _) => span_turn(span, p, dir, end),
         Node::Field(leaf) => leaf_turn(leaf, p, dir, end, steps),
         Node::Ical(leaf) => leaf_turn(leaf, p, dir, end, steps),
-        Node::Joined(_, a, b) => {
+        Node::Joined(_, a, b) => either_turn(a, b, p, dir, end, steps),
+        Node::Not(a) => next_turn(a, p, dir, end, steps),
+        Node::During(a, seconds) => {
             let near = next_turn(a, p, dir, end, steps);
-            let other = next_turn(b, p, dir, end, steps);
+            let other = shifted_turn(a, *seconds, p, dir, end, steps);
             nearer(dir, near, other)
         }
-        Node::Not(a) => next_turn(a, p, dir, end, steps),
+        Node::Pairs(a, b) => either_turn(a, b, p, dir, end, steps),
+        Node::Starts(a) => edge_turn(a, p, dir, end, steps),
+        Node::Ends(a) => edge_turn(a, p, dir, end, steps),
+        Node::Shift(a, seconds) => shifted_turn(a, *seconds, p, dir, end, steps),
+    }
+}
+
+/// The nearest turn of either set.
+#[cycle(next_turn)]
+pub(crate) fn either_turn<L: Ledger>(
+    a: &Node,
+    b: &Node,
+    p: Pos,
+    dir: Dir,
+    end: Pos,
+    steps: &mut Steps<L>,
+) -> Option<Turn>
+    requires sound { IsSound (meant_of_node a.now) × IsSound (meant_of_node b.now) }
+    requires a_here { HasRoom (reach_of (meant_of_node a.now)) p.0 }
+    requires a_there { HasRoom (reach_of (meant_of_node a.now)) end.0 }
+    requires b_here { HasRoom (reach_of (meant_of_node b.now)) p.0 }
+    requires b_there { HasRoom (reach_of (meant_of_node b.now)) end.0 }
+    ensures turn { (h : ℤ → Bool) →
+        Follows (is_member (meant_of_node a.now)) (is_member (meant_of_node b.now)) h dir p.0 →
+        IsTurn h dir p.0 end.0 result }
+    ensures counts { StandsIfCounted
+        (λ q. is_candidate (meant_of_node a.now) q || is_candidate (meant_of_node b.now) q)
+        dir result }
+    ensures counted { steps.old ≤ steps.new }
+{
+    let near = next_turn(a, p, dir, end, steps);
+    let other = next_turn(b, p, dir, end, steps);
+    nearer(dir, near, other)
+}
+
+/// The nearest turn of the set, so many seconds later.
+#[cycle(next_turn)]
+fn shifted_turn<L: Ledger>(
+    a: &Node,
+    seconds: Seconds,
+    p: Pos,
+    dir: Dir,
+    end: Pos,
+    steps: &mut Steps<L>,
+) -> Option<Turn>
+    requires sound { IsSound (meant_of_node a.now) }
+    requires here { HasRoom (unsigned_abs seconds.0 + reach_of (meant_of_node a.now)) p.0 }
+    requires there { HasRoom (unsigned_abs seconds.0 + reach_of (meant_of_node a.now)) end.0 }
+    ensures turn { IsTurn (λ q. is_member (meant_of_node a.now) (q -ℤ position_of seconds.0))
+        dir p.0 end.0 result }
+    ensures counts { StandsIfCounted
+        (λ q. is_candidate (meant_of_node a.now) (q -ℤ position_of seconds.0)) dir result }
+    ensures counted { steps.old ≤ steps.new }
+{
+    match next_turn(a, earlier(p, seconds), dir, earlier(end, seconds), steps) {
+        Some(turn) => Some(Turn {
+            place: later(turn.place, seconds),
+            counts: turn.counts,
+        }),
+        None => None,
+    }
+}
+
+/// The nearest turn of the moments at which runs of the set begin, or end.
+#[cycle(next_turn)]
+fn edge_turn<L: Ledger>(a: &Node, p: Pos, dir: Dir, end: Pos, steps: &mut Steps<L>) -> Option<Turn>
+    requires sound { IsSound (meant_of_node a.now) }
+    requires here { HasRoom (1 + reach_of (meant_of_node a.now)) p.0 }
+    requires there { HasRoom (1 + reach_of (meant_of_node a.now)) end.0 }
+    ensures turn { (h : ℤ → Bool) → IsEdge (is_member (meant_of_node a.now)) h →
+        IsTurn h dir p.0 end.0 result }
+    ensures counts { StandsIfCounted (is_candidate (meant_of_node a.now)) dir result }
+    ensures counted { steps.old ≤ steps.new }
+{
+    match next_turn(a, open_before(dir, p), dir, next(dir, end), steps) {
+        Some(turn) => edge_up_to(dir, turn, edge_at(dir, p, turn.place), end),
+        None => None,
+    }
+}
+
+/// The moment of a turn at `q`, or where that is `p` itself the position next to it.
+fn edge_at(dir: Dir, p: Pos, q: Pos) -> Pos
+    requires p { IsWorkingPosition p.0 }
+    requires q { unsigned_abs q.0 ≤ 2 ^ 60 }
+    ensures { result.0 ≡ edge_at dir p.0 q.0 }
+{
+    let candidate = candidate_at(dir, q);
+    if candidate == p {
+        next(dir, p)
+    } else {
+        candidate
+    }
+}
+
+/// The turn at the place, where it isn't past the end.
+fn edge_up_to(dir: Dir, turn: Turn, place: Pos, end: Pos) -> Option<Turn>
+    ensures { result ≡ edge_up_to dir turn place end }
+{
+    if is_past(dir, place, end) {
+        None
+    } else {
+        Some(Turn {
+            place,
+            counts: turn.counts,
+        })
     }
 }
 
@@ -65,8 +181,8 @@ fn leaf_turn<F: Leaf, L: Ledger>(
     end: Pos,
     steps: &mut Steps<L>,
 ) -> Option<Turn>
-    requires here { IsCalendarPosition p.0 }
-    requires there { IsCalendarPosition end.0 }
+    requires here { IsWorkingPosition p.0 }
+    requires there { IsWorkingPosition end.0 }
     ensures turn { IsTurn (moments_in (F.has leaf.now)) dir p.0 end.0 result }
     ensures counts { StandsIfCounted (moments_in (F.cand leaf.now)) dir result }
     ensures counted { steps.old ≤ steps.new }
@@ -83,8 +199,8 @@ fn leaf_turn_up<F: Leaf, L: Ledger>(
     end: Pos,
     steps: &mut Steps<L>,
 ) -> Option<Turn>
-    requires here { IsCalendarPosition p.0 }
-    requires there { IsCalendarPosition end.0 }
+    requires here { IsWorkingPosition p.0 }
+    requires there { IsWorkingPosition end.0 }
     ensures turn { IsTurn (moments_in (F.has leaf.now)) Fore p.0 end.0 result }
     ensures counts { StandsIfCounted (moments_in (F.cand leaf.now)) Fore result }
     ensures counted { steps.old ≤ steps.new }
@@ -105,8 +221,8 @@ fn leaf_turn_down<F: Leaf, L: Ledger>(
     end: Pos,
     steps: &mut Steps<L>,
 ) -> Option<Turn>
-    requires here { IsCalendarPosition p.0 }
-    requires there { IsCalendarPosition end.0 }
+    requires here { IsWorkingPosition p.0 }
+    requires there { IsWorkingPosition end.0 }
     ensures turn { IsTurn (moments_in (F.has leaf.now)) Back p.0 end.0 result }
     ensures counts { StandsIfCounted (moments_in (F.cand leaf.now)) Back result }
     ensures counted { steps.old ≤ steps.new }
@@ -209,11 +325,10 @@ fn crossed(first: Pos, dir: Dir) -> Pos
     }
 }
 
-/// The nearer of two turns: the next one of what joins two sets.
+/// The nearer of two turns: the next one of a set that follows two others.
 fn nearer(dir: Dir, a: Option<Turn>, b: Option<Turn>) -> Option<Turn>
-    ensures turn { (f g : ℤ → Bool) (op : Bool → Bool → Bool) (p end : ℤ) →
-        IsTurn f dir p end a → IsTurn g dir p end b →
-        IsTurn (λ q. op (f q) (g q)) dir p end result }
+    ensures turn { (f g h : ℤ → Bool) (p end : ℤ) → Follows f g h dir p →
+        IsTurn f dir p end a → IsTurn g dir p end b → IsTurn h dir p end result }
     ensures counts { (x y : ℤ → Bool) → StandsIfCounted x dir a → StandsIfCounted y dir b →
         StandsIfCounted (λ q. x q || y q) dir result }
 {
@@ -240,12 +355,15 @@ fn nearer_turn(dir: Dir, a: Turn, b: Turn) -> Turn
     }
 }
 
-/// Whether `q` lies past `p` in the direction.
-pub(crate) fn is_past(dir: Dir, q: Pos, p: Pos) -> bool
-    ensures { result ≡ is_past dir q.0 p.0 }
+/// One more for a turn that counts, where its candidate wasn't passed before.
+pub(crate) fn with_candidate(passed: u64, dir: Dir, p: Pos, place: Pos, turn: Turn) -> u64
+    requires room { passed + 1 < 2 ^ 64 }
+    requires turn { IsWorkingPosition turn.place.0 }
+    ensures { result ≡ passed_by passed dir p.0 place.0 turn }
 {
-    match dir {
-        Dir::Fore => p < q,
-        Dir::Back => q < p,
+    if turn.counts && (place == p || is_past(dir, candidate_at(dir, turn.place), place)) {
+        passed + 1
+    } else {
+        passed
     }
 }

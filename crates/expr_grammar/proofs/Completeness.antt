@@ -3,18 +3,20 @@ use Rattle.std.proofs.Common.{◌≡◌, ℕ, zero, suc, ◌≤◌, true, false,
 use Rattle.std.proofs.lemmas.List.{append-nil}
 use Rattle.moment_core.specs.declared.joining.Op.{Op}
 use Rattle.moment_core.specs.declared.joining.Op.TheVariants as operators
+use Rattle.expr_tokens.specs.declared.token.Word.{Word}
 use Rattle.expr_tokens.specs.Plain.{Token}
 use Rattle.expr_tokens.specs.Plain as tokens
 use Rattle.moment_core.specs.declared.line.Stamp.{Stamp}
+use Rattle.expr_grammar.specs.declared.syntax.BinaryOp.TheVariants.{Infix, Pairs}
 use Rattle.expr_grammar.specs.declared.syntax.SpanBound.{SpanBound}
-use Rattle.expr_grammar.specs.Form.{Form, Span, Joined, Forms}
-use Rattle.expr_grammar.specs.Grammar.{Goes, ends, goes, Chain, MoreMoments, closed, more, IsLow, from_start, from_after, IsHigh, to_end, to_before, Bounds, no_bound, low_bound, high_bound, both_bounds, Leaf, empty, listed, span, rule, rrule, Nested, leaf, brackets, inverse, IsExpr, IsAtom, Spells, one, two, nesting_limit}
+use Rattle.expr_grammar.specs.Form.{Form, Span, Binary, Forms}
+use Rattle.expr_grammar.specs.Grammar.{Goes, ends, goes, Chain, MoreMoments, closed, more, IsLow, from_start, from_after, IsHigh, to_end, to_before, Bounds, no_bound, low_bound, high_bound, both_bounds, Leaf, empty, listed, span, rule, rrule, CallEnd, during_call, pairs_call, starts_call, ends_call, shift_call, Nested, leaf, brackets, inverse, call, IsExpr, IsAtom, Spells, one, two, nesting_limit}
 use Rattle.expr_grammar.specs.Laws.{SpellOne}
 use Rattle.rule_core.specs.declared.part.Freq.{Freq}
 use Rattle.rule_core.specs.declared.part.Freq.TheVariants as freqs
 use Rattle.expr_grammar.specs.Fields.{freq_word}
 use Rattle.expr_grammar.proofs.Rules.{rule_complete}
-use Rattle.expr_grammar.specs.Parsing.{list_at, Read, same, stands, chain_from, chain_at, expr_at, moments_at, close_at, high_end_at, low_end_at, span_at, rrule_at, rule_at, leaf_at, nested_at, atom_at, second_at, program_end_at, program_at}
+use Rattle.expr_grammar.specs.Parsing.{list_at, Read, same, stands, chain_from, chain_at, expr_at, moments_at, close_at, high_end_at, low_end_at, span_at, rrule_at, rule_at, leaf_at, takes_expression, pairs_end_at, call_end_at, call_at, nested_at, atom_at, second_at, program_end_at, program_at}
 
 -- what is spelled so is read, where the rest doesn't go on with it
 abbrev pub IsComplete : (Form → List Token → Type 0) → (List Token → Read) → (List Token → Type 0) → Type 0
@@ -35,7 +37,7 @@ module _ (Operand : Form → List Token → Type 0) (operand : List Token → Re
   none_left zero left rest h = refl
   none_left (suc n) left rest h = rw h refl
 
-  one_more : (n : ℕ) (left b : Form) (xs after : List Token) → operand (xs ++ after) ≡ Some (b, after) → chain_from operand op (suc n) left (tokens.Operator op ∷ xs ++ after) ≡ chain_from operand op n (Joined op left b) after
+  one_more : (n : ℕ) (left b : Form) (xs after : List Token) → operand (xs ++ after) ≡ Some (b, after) → chain_from operand op (suc n) left (tokens.Operator op ∷ xs ++ after) ≡ chain_from operand op n (Binary (Infix op) left b) after
   unfolding chain_from
   one_more n left b xs after h = rw (same-self op, h) refl
 
@@ -45,8 +47,8 @@ module _ (Operand : Form → List Token → Type 0) (operand : List Token → Re
   from_complete (suc n) left t ts rest (goes _ b _ xs ys o others) enough h next =
       let regrouped : (xs ++ ys) ++ rest ≡ xs ++ (ys ++ rest) = append_assoc xs ys rest in
       let fits : length (ys ++ rest) ≤ n = omega (arith, simp length-append at enough, length-append ys rest) in
-      let read : operand (xs ++ (ys ++ rest)) ≡ Some (b, ys ++ rest) = complete b xs (ys ++ rest) o (goes_stops (Joined op left b) t ys rest others h) in
-      rw regrouped (one_more n left b xs (ys ++ rest) read ∙ from_complete n (Joined op left b) t ys rest others fits h next)
+      let read : operand (xs ++ (ys ++ rest)) ≡ Some (b, ys ++ rest) = complete b xs (ys ++ rest) o (goes_stops (Binary (Infix op) left b) t ys rest others h) in
+      rw regrouped (one_more n left b xs (ys ++ rest) read ∙ from_complete n (Binary (Infix op) left b) t ys rest others fits h next)
 
   pub chain_complete : IsComplete (Chain Operand op) (chain_at operand op) (λ rest. Stops rest × (stands op rest ≡ false))
   unfolding chain_at
@@ -122,6 +124,15 @@ leaf_complete t front rest (span a b ts spelled) h = bounds_complete a b ts rest
 leaf_complete t front rest (rrule text start) h = refl
 leaf_complete t front rest (rule freq fields are) h = rule_case freq _ ∙ rule_complete freq fields rest are
 
+rule_takes_none : (freq : Freq) → takes_expression (freq_word freq) ≡ false
+rule_takes_none freqs.Yearly = refl
+rule_takes_none freqs.Monthly = refl
+rule_takes_none freqs.Weekly = refl
+rule_takes_none freqs.Daily = refl
+rule_takes_none freqs.Hourly = refl
+rule_takes_none freqs.Minutely = refl
+rule_takes_none freqs.Secondly = refl
+
 module _ (Whole Atom : Form → List Token → Type 0) (whole_at atom : List Token → Read) (whole_complete : IsComplete Whole whole_at StopsAll) (atom_is_complete : IsComplete Atom atom (λ _. Unit {0})) where
   -- no other case of an atom begins as a leaf does
   leaf_case : (t : Form) (front rest : List Token) → Leaf t front → nested_at whole_at atom (front ++ rest) ≡ leaf_at (front ++ rest)
@@ -129,8 +140,31 @@ module _ (Whole Atom : Form → List Token → Type 0) (whole_at atom : List Tok
   leaf_case t front rest empty = refl
   leaf_case t front rest (listed m ms ts spelled) = refl
   leaf_case t front rest (span a b ts spelled) = refl
-  leaf_case t front rest (rule freq fields are) = refl
+  leaf_case t front rest (rule freq fields are) = rw (rule_takes_none freq) refl
   leaf_case t front rest (rrule text start) = refl
+
+  -- a bracket or a comma stands behind the first expression of a call
+  record Ends (a t : Form) (name : Word) (us rest : List Token) : Type 0 where
+    takes : takes_expression name ≡ true
+    stops : StopsAll (us ++ rest)
+    read : call_end_at whole_at name a (us ++ rest) ≡ Some (t, rest)
+
+  pairs_complete : (a b : Form) (ts rest : List Token) → Whole b ts → pairs_end_at whole_at a ((tokens.Comma ∷ ts ++ tokens.Close ∷ []) ++ rest) ≡ Some (Binary Pairs a b, rest)
+  unfolding pairs_end_at close_at
+  pairs_complete a b ts rest spelled =
+      rw (append_assoc ts (tokens.Close ∷ []) rest, whole_complete b ts (tokens.Close ∷ rest) spelled (record { union = refl; minus = refl; meet = refl })) refl
+
+  end_complete : (a t : Form) (name : Word) (us rest : List Token) → CallEnd Whole a name t us → Ends a t name us rest
+  unfolding call_end_at
+  end_complete a t name us rest (during_call n) = record { takes = refl; stops = record { union = refl; minus = refl; meet = refl }; read = refl }
+  end_complete a t name us rest (pairs_call b ts spelled) = record { takes = refl; stops = record { union = refl; minus = refl; meet = refl }; read = pairs_complete a b ts rest spelled }
+  end_complete a t name us rest starts_call = record { takes = refl; stops = record { union = refl; minus = refl; meet = refl }; read = refl }
+  end_complete a t name us rest ends_call = record { takes = refl; stops = record { union = refl; minus = refl; meet = refl }; read = refl }
+  end_complete a t name us rest (shift_call n) = record { takes = refl; stops = record { union = refl; minus = refl; meet = refl }; read = refl }
+
+  call_complete : (a t : Form) (name : Word) (ts us rest : List Token) → Whole a ts → Ends a t name us rest → call_at whole_at name ((ts ++ us) ++ rest) ≡ Some (t, rest)
+  unfolding call_at
+  call_complete a t name ts us rest spelled end = rw (append_assoc ts us rest, whole_complete a ts (us ++ rest) spelled end.stops) end.read
 
   pub nested_complete : IsComplete (Nested Whole Atom) (nested_at whole_at atom) (λ _. Unit {0})
   unfolding nested_at close_at
@@ -139,6 +173,9 @@ module _ (Whole Atom : Form → List Token → Type 0) (whole_at atom : List Tok
       let regrouped : (ts ++ tokens.Close ∷ []) ++ rest ≡ ts ++ (tokens.Close ∷ rest) = append_assoc ts (tokens.Close ∷ []) rest in
       rw (regrouped, whole_complete t ts (tokens.Close ∷ rest) spelled (record { union = refl; minus = refl; meet = refl })) refl
   nested_complete t front rest (inverse a ts spelled) h = rw (atom_is_complete a ts rest spelled tt) refl
+  nested_complete t front rest (call name a _ ts us spelled end) h =
+      let x = end_complete a t name us rest end in
+      rw x.takes (call_complete a t name ts us rest spelled x)
 
 pub atom_complete : (depth : ℕ) → IsComplete (IsAtom depth) (atom_at depth) (λ _. Unit {0})
 unfolding IsAtom atom_at

@@ -7,8 +7,9 @@ use Rattle.expr_tokens.specs.Plain.{Token}
 use Rattle.expr_tokens.specs.Plain as tokens
 use Rattle.expr_grammar.specs.declared.fault.ParseFault.{ParseFault}
 use Rattle.expr_grammar.specs.declared.fault.ParseFault.TheVariants as faults
+use Rattle.expr_grammar.specs.declared.syntax.BinaryOp.TheVariants.{Infix}
 use Rattle.moment_core.specs.declared.line.Stamp.{Stamp}
-use Rattle.expr_grammar.specs.Form.{Form, Joined}
+use Rattle.expr_grammar.specs.Form.{Form, Binary}
 use Rattle.expr_grammar.specs.Parsing.{Read, Fails, stands, chain_from, chain_at, moments_end_at}
 
 -- what is left of a loop over operands gives the whole
@@ -38,15 +39,15 @@ module _ (operand : List Token → Read) (op : Op) where
   fails_later e left rest total next some h on = fails_from e on.most left rest total next some on.enough h on.so_far
 
   goes_from : (n : ℕ) (left : Form) (rest : List Token) (right : Form) (after : List Token) (total : Read) → stands op rest ≡ true → 0 < length rest → length rest ≤ n → operand (drop 1 rest) ≡ Some (right, after)
-      → length after ≤ length rest - 1 → chain_from operand op n left rest ≡ total → GoesOn operand op (Joined op left right) after total
+      → length after ≤ length rest - 1 → chain_from operand op n left rest ≡ total → GoesOn operand op (Binary (Infix op) left right) after total
   unfolding chain_from
   goes_from zero left rest right after total next some enough h shorter so_far = absurd (omega arith)
   goes_from (suc n) left rest right after total next some enough h shorter so_far =
-      let one : chain_from operand op (suc n) left rest ≡ chain_from operand op n (Joined op left right) after = rw (next, h) refl in
+      let one : chain_from operand op (suc n) left rest ≡ chain_from operand op n (Binary (Infix op) left right) after = rw (next, h) refl in
       record { most = n; enough = omega arith; so_far = sym one ∙ so_far }
 
   pub goes_on : (left : Form) (rest : List Token) (right : Form) (after : List Token) (total : Read) → stands op rest ≡ true → 0 < length rest → operand (drop 1 rest) ≡ Some (right, after)
-      → length after ≤ length rest - 1 → GoesOn operand op left rest total → GoesOn operand op (Joined op left right) after total
+      → length after ≤ length rest - 1 → GoesOn operand op left rest total → GoesOn operand op (Binary (Infix op) left right) after total
   goes_on left rest right after total next some h shorter on = goes_from on.most left rest right after total next some on.enough h shorter on.so_far
 
   ends_from : (n : ℕ) (left : Form) (rest : List Token) (total : Read) → stands op rest ≡ false → chain_from operand op n left rest ≡ total → total ≡ Some (left, rest)

@@ -4,12 +4,14 @@ use Rattle.std.specs.List.{AllByRecursion}
 use Rattle.moment_core.specs.declared.line.Stamp.{Stamp}
 use Rattle.moment_core.specs.declared.joining.Op.{Op}
 use Rattle.moment_core.specs.declared.joining.Op.TheVariants as operators
+use Rattle.expr_tokens.specs.declared.token.Word.{Word}
 use Rattle.expr_tokens.specs.Plain.{Token}
 use Rattle.expr_tokens.specs.Plain as tokens
+use Rattle.expr_grammar.specs.declared.syntax.BinaryOp.TheVariants.{Infix}
 use Rattle.expr_grammar.specs.declared.syntax.SpanBound.{SpanBound}
 use Rattle.expr_grammar.specs.Fields.{fields_tokens, field_tokens}
-use Rattle.expr_grammar.specs.Form.{FieldForm, Values, Start, Form, Joined, Forms}
-use Rattle.expr_grammar.specs.Grammar.{Goes, ends, goes, Chain, MoreMoments, closed, more, IsLow, from_start, from_after, IsHigh, to_end, to_before, Bounds, no_bound, low_bound, high_bound, both_bounds, Leaf, empty, listed, span, rule, rrule, Nested, leaf, brackets, inverse, IsExpr, IsAtom, Spells, one, two, nesting_limit}
+use Rattle.expr_grammar.specs.Form.{FieldForm, Values, Start, Form, Binary, Forms}
+use Rattle.expr_grammar.specs.Grammar.{Goes, ends, goes, Chain, MoreMoments, closed, more, IsLow, from_start, from_after, IsHigh, to_end, to_before, Bounds, no_bound, low_bound, high_bound, both_bounds, Leaf, empty, listed, span, rule, rrule, CallEnd, during_call, pairs_call, starts_call, ends_call, shift_call, Nested, leaf, brackets, inverse, call, IsExpr, IsAtom, Spells, one, two, nesting_limit}
 use Rattle.expr_grammar.specs.Made.{HasMoment, BoundHas, FieldHas, IsMade, AreMade}
 use Rattle.moment_core.proofs.Lists.{all_front, all_behind}
 
@@ -58,7 +60,7 @@ module _ (P : Option Stamp → Type 0) where
   goes_made : (Operand : Form → List Token → Type 0) (op : Op) → Keeps Operand → (left t : Form) (ts : List Token) → Goes Operand op left t ts → IsMade P left → Dates ts → IsMade P t
   goes_made Operand op keeps left t ts (ends _) made h = made
   goes_made Operand op keeps left t ts (goes _ b _ xs ys o others) made h =
-      goes_made Operand op keeps (Joined op left b) t ys others (made, keeps b xs o (all_front (HasMoment P) xs ys h.1)) (all_behind (HasMoment P) xs ys h.1)
+      goes_made Operand op keeps (Binary (Infix op) left b) t ys others (made, keeps b xs o (all_front (HasMoment P) xs ys h.1)) (all_behind (HasMoment P) xs ys h.1)
 
   chain_made : (Operand : Form → List Token → Type 0) (op : Op) → Keeps Operand → Keeps (Chain Operand op)
   chain_made Operand op keeps t ts j h =
@@ -70,10 +72,19 @@ module _ (P : Option Stamp → Type 0) where
       chain_made (Chain (Chain Atom operators.Meet) operators.Minus) operators.Union
       (chain_made (Chain Atom operators.Meet) operators.Minus (chain_made Atom operators.Meet keeps))
 
+  end_made : (Whole : Form → List Token → Type 0) → Keeps Whole → (a t : Form) (name : Word) (ts : List Token) → CallEnd Whole a name t ts → IsMade P a → Dates ts → IsMade P t
+  end_made Whole whole a t name ts (during_call n) made h = made
+  end_made Whole whole a t name ts (pairs_call b inner spelled) made h = (made, whole b inner spelled (all_front (HasMoment P) inner (tokens.Close ∷ []) h.1))
+  end_made Whole whole a t name ts starts_call made h = made
+  end_made Whole whole a t name ts ends_call made h = made
+  end_made Whole whole a t name ts (shift_call n) made h = made
+
   nested_made : (Whole Atom : Form → List Token → Type 0) → Keeps Whole → Keeps Atom → Keeps (Nested Whole Atom)
   nested_made Whole Atom whole atom t ts (leaf _ _ spelled) h = leaf_made t ts spelled h
   nested_made Whole Atom whole atom t ts (brackets _ inner spelled) h = whole t inner spelled (all_front (HasMoment P) inner (tokens.Close ∷ []) h.1)
   nested_made Whole Atom whole atom t ts (inverse a inner spelled) h = atom a inner spelled h.1
+  nested_made Whole Atom whole atom t ts (call name a _ inner others spelled end) h =
+      end_made Whole whole a t name others end (whole a inner spelled (all_front (HasMoment P) inner others h.1.1)) (all_behind (HasMoment P) inner others h.1.1)
 
   atom_made : (depth : ℕ) → Keeps (IsAtom depth)
   unfolding IsAtom

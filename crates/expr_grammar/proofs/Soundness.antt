@@ -5,14 +5,18 @@ use Rattle.std.proofs.lemmas.List.{append-nil, nil_from_length}
 use Rattle.moment_core.specs.declared.joining.Op.{Op}
 use Rattle.moment_core.specs.declared.joining.Op.TheVariants as operators
 use Rattle.moment_core.specs.Texts.{◌>>=◌}
+use Rattle.expr_tokens.specs.declared.token.Word.{Word}
 use Rattle.expr_tokens.specs.declared.token.Word.TheVariants as words
 use Rattle.expr_tokens.specs.Plain.{Token}
 use Rattle.expr_tokens.specs.Plain as tokens
 use Rattle.moment_core.specs.declared.line.Stamp.{Stamp}
+use Rattle.expr_grammar.specs.declared.syntax.BinaryOp.TheVariants.{Infix, Pairs}
 use Rattle.expr_grammar.specs.declared.syntax.SpanBound.{SpanBound}
-use Rattle.expr_grammar.specs.Form.{Form, Empty, Listed, Span, Rrule, Joined, Inverse, Forms}
-use Rattle.expr_grammar.specs.Grammar.{Goes, ends, goes, Chain, MoreMoments, closed, more, IsLow, from_start, from_after, IsHigh, to_end, to_before, Bounds, no_bound, low_bound, high_bound, both_bounds, Leaf, empty, listed, span, rule, rrule, rrule_tokens, Nested, leaf, brackets, inverse, IsExpr, IsAtom, Spells, one, two, nesting_limit}
-use Rattle.expr_grammar.specs.Parsing.{Read, same, stands, chain_from, chain_at, expr_at, moments_at, list_at, close_at, high_at, high_end_at, low_end_at, span_at, rrule_at, leaf_at, nested_at, atom_at, second_at, program_end_at, program_at}
+use Rattle.expr_grammar.specs.declared.syntax.UnaryOp.{UnaryOp}
+use Rattle.expr_grammar.specs.declared.syntax.UnaryOp.TheVariants.{Inverse, During, Starts, Ends, Shift}
+use Rattle.expr_grammar.specs.Form.{Form, Empty, Listed, Span, Rrule, Unary, Binary, Forms}
+use Rattle.expr_grammar.specs.Grammar.{Goes, ends, goes, Chain, MoreMoments, closed, more, IsLow, from_start, from_after, IsHigh, to_end, to_before, Bounds, no_bound, low_bound, high_bound, both_bounds, Leaf, empty, listed, span, rule, rrule, rrule_tokens, CallEnd, during_call, pairs_call, starts_call, ends_call, shift_call, Nested, leaf, brackets, inverse, call, IsExpr, IsAtom, Spells, one, two, nesting_limit}
+use Rattle.expr_grammar.specs.Parsing.{Read, same, stands, chain_from, chain_at, expr_at, moments_at, list_at, close_at, high_at, high_end_at, low_end_at, span_at, rrule_at, leaf_at, takes_expression, name_at, unary_end_at, pairs_end_at, call_end_at, call_at, call_or_leaf, nested_at, atom_at, second_at, program_end_at, program_at}
 use Rattle.expr_grammar.specs.Fields.{rule_tokens}
 use Rattle.expr_grammar.proofs.Rules.{TakesRule, rule_sound}
 use Rattle.expr_grammar.proofs.Parts.{along, bind_some, found, read_is, some_is}
@@ -49,7 +53,7 @@ module _ (Operand : Form → List Token → Type 0) (operand : List Token → Re
 
   -- one more operand, from what is known of the rest
   goes_sound : (left : Form) (ts : List Token) (b : Form × List Token) (t : Form) (rest : List Token) → stands op ts ≡ true → operand (drop 1 ts) ≡ Some b
-      → Takes (Goes Operand op (Joined op left b.0)) b.1 t rest → Takes (Goes Operand op left) ts t rest
+      → Takes (Goes Operand op (Binary (Infix op) left b.0)) b.1 t rest → Takes (Goes Operand op left) ts t rest
   goes_sound left ts b t rest next read others =
       let first = sound (drop 1 ts) b.0 b.1 read in
       record {
@@ -62,11 +66,11 @@ module _ (Operand : Form → List Token → Type 0) (operand : List Token → Re
   unfolding chain_from
   from_sound zero left ts t rest e = nothing_more left ts t rest e
   from_sound (suc n) left ts t rest e =
-      let P : Bool → Type 0 = λ b. stands op ts ≡ b → cond b (operand (drop 1 ts) >>= (λ x. chain_from operand op n (Joined op left x.0) x.1)) (Some (left, ts)) ≡ Some (t, rest) → Takes (Goes Operand op left) ts t rest in
+      let P : Bool → Type 0 = λ b. stands op ts ≡ b → cond b (operand (drop 1 ts) >>= (λ x. chain_from operand op n (Binary (Infix op) left x.0) x.1)) (Some (left, ts)) ≡ Some (t, rest) → Takes (Goes Operand op left) ts t rest in
       let go : (b : Bool) → P b = λ b. elim b as P [
         | true ↦ λ next h.
-            let x = bind_some (operand (drop 1 ts)) (λ y. chain_from operand op n (Joined op left y.0) y.1) (t, rest) h in
-            goes_sound left ts x.0 t rest next x.1 (from_sound n (Joined op left x.0.0) x.0.1 t rest x.2)
+            let x = bind_some (operand (drop 1 ts)) (λ y. chain_from operand op n (Binary (Infix op) left y.0) y.1) (t, rest) h in
+            goes_sound left ts x.0 t rest next x.1 (from_sound n (Binary (Infix op) left x.0.0) x.0.1 t rest x.2)
         | false ↦ λ next h. nothing_more left ts t rest h
       ] in
       go (stands op ts) refl e
@@ -232,9 +236,71 @@ leaf_sound (tokens.LeftBrace ∷ ts) t rest e =
     along (Takes Leaf (tokens.LeftBrace ∷ ts)) (Listed y.0.0) t y.0.1 rest y.2 others
 leaf_sound ts t rest e = rule_leaf ts t rest (rule_sound ts t rest e)
 
+guard_is : {A : Type 0} (b : Bool) (x y : A) → cond b (Some x) None ≡ Some y → (b ≡ true) × (x ≡ y)
+guard_is true x y e = (refl, cc)
+guard_is false x y e = absurd cc
+
 module _ (Whole Atom : Form → List Token → Type 0) (whole_at atom : List Token → Read) (whole_sound : IsSound Whole whole_at) (atom_is_sound : IsSound Atom atom) where
   leaf_case : (ts : List Token) (t : Form) (rest : List Token) → leaf_at ts ≡ Some (t, rest) → Takes (Nested Whole Atom) ts t rest
   leaf_case ts t rest e = let x = leaf_sound ts t rest e in record { front = x.front; whole = x.whole; spelled = leaf t x.front x.spelled }
+
+  unary_end_sound : (a : Form) (name : Word) (ts : List Token) (op : UnaryOp) (rest : List Token) → unary_end_at name ts ≡ Some (op, rest) → Takes (CallEnd Whole a name) ts (Unary op a) rest
+  unary_end_sound a words.During (tokens.Comma ∷ tokens.Number n ∷ tokens.Close ∷ ts) op rest e =
+      along (λ o r. Takes (CallEnd Whole a words.During) (tokens.Comma ∷ tokens.Number n ∷ tokens.Close ∷ ts) (Unary o a) r) (During n) op ts rest e
+      (record { front = tokens.Comma ∷ tokens.Number n ∷ tokens.Close ∷ []; whole = refl; spelled = during_call n })
+  unary_end_sound a words.Starts (tokens.Close ∷ ts) op rest e =
+      along (λ o r. Takes (CallEnd Whole a words.Starts) (tokens.Close ∷ ts) (Unary o a) r) Starts op ts rest e (record { front = tokens.Close ∷ []; whole = refl; spelled = starts_call })
+  unary_end_sound a words.Ends (tokens.Close ∷ ts) op rest e =
+      along (λ o r. Takes (CallEnd Whole a words.Ends) (tokens.Close ∷ ts) (Unary o a) r) Ends op ts rest e (record { front = tokens.Close ∷ []; whole = refl; spelled = ends_call })
+  unary_end_sound a words.Shift (tokens.Comma ∷ tokens.Number n ∷ tokens.Close ∷ ts) op rest e =
+      along (λ o r. Takes (CallEnd Whole a words.Shift) (tokens.Comma ∷ tokens.Number n ∷ tokens.Close ∷ ts) (Unary o a) r) (Shift n) op ts rest e
+      (record { front = tokens.Comma ∷ tokens.Number n ∷ tokens.Close ∷ []; whole = refl; spelled = shift_call n })
+  unary_end_sound a name ts op rest e = absurd cc
+
+  pairs_end_sound : (a : Form) (ts : List Token) (t : Form) (rest : List Token) → pairs_end_at whole_at a ts ≡ Some (t, rest) → Takes (CallEnd Whole a words.Pairs) ts t rest
+  unfolding pairs_end_at
+  pairs_end_sound a (tokens.Comma ∷ ts) t rest e =
+      let x = bind_some (whole_at ts) (λ b. close_at (Binary Pairs a b.0) b.1) (t, rest) e in
+      let end = close_is (Binary Pairs a x.0.0) x.0.1 t rest x.2 in
+      let inner = whole_sound ts x.0.0 x.0.1 x.1 in
+      record {
+        front = tokens.Comma ∷ inner.front ++ tokens.Close ∷ [];
+        whole = ap (λ (y : List Token). tokens.Comma ∷ y) (inner.whole ∙ ap (λ (y : List Token). inner.front ++ y) end.1 ∙ sym (append_assoc inner.front (tokens.Close ∷ []) rest));
+        spelled = subst (λ (y : Form). CallEnd Whole a words.Pairs y (tokens.Comma ∷ inner.front ++ tokens.Close ∷ [])) end.0 (pairs_call x.0.0 inner.front inner.spelled);
+      }
+  pairs_end_sound a ts t rest e = absurd cc
+
+  call_end_sound : (a : Form) (name : Word) (ts : List Token) (t : Form) (rest : List Token) → call_end_at whole_at name a ts ≡ Some (t, rest) → Takes (CallEnd Whole a name) ts t rest
+  unfolding call_end_at
+  call_end_sound a words.Pairs ts t rest e = pairs_end_sound a ts t rest e
+  call_end_sound a name ts t rest e =
+      let x = bind_some (unary_end_at name ts) (λ y. Some (Unary y.0 a, y.1)) (t, rest) e in
+      along (Takes (CallEnd Whole a name) ts) (Unary x.0.0 a) t x.0.1 rest x.2 (unary_end_sound a name ts x.0.0 x.0.1 x.1)
+
+  call_sound : (name : Word) (ts : List Token) (t : Form) (rest : List Token) → call_at whole_at name ts ≡ Some (t, rest) → Takes (Nested Whole Atom) (tokens.Word name ∷ tokens.Open ∷ ts) t rest
+  unfolding call_at
+  call_sound name ts t rest e =
+      let x = bind_some (whole_at ts) (λ a. call_end_at whole_at name a.0 a.1) (t, rest) e in
+      let first = whole_sound ts x.0.0 x.0.1 x.1 in
+      let end = call_end_sound x.0.0 name x.0.1 t rest x.2 in
+      record {
+        front = tokens.Word name ∷ tokens.Open ∷ first.front ++ end.front;
+        whole = ap (λ (y : List Token). tokens.Word name ∷ tokens.Open ∷ y) (first.whole ∙ ap (λ (y : List Token). first.front ++ y) end.whole ∙ sym (append_assoc first.front end.front rest));
+        spelled = call name x.0.0 t first.front end.front first.spelled end.spelled;
+      }
+
+  name_is : (ts : List Token) (name : Word) (inner : List Token) → name_at ts ≡ Some (name, inner) → ts ≡ tokens.Word name ∷ tokens.Open ∷ inner
+  name_is (tokens.Word w ∷ tokens.Open ∷ ts) name inner e =
+      let x : Word × List Token = (w, ts) in
+      let y : Word × List Token = (name, inner) in
+      let same : x ≡ y = (guard_is (takes_expression w) x y e).1 in
+      ap (λ (z : Word × List Token). tokens.Word z.0 ∷ tokens.Open ∷ z.1) same
+  name_is ts name inner e = absurd cc
+
+  call_or_leaf_sound : (o : Option (Word × List Token)) (ts : List Token) (t : Form) (rest : List Token) → name_at ts ≡ o → call_or_leaf whole_at o ts ≡ Some (t, rest) → Takes (Nested Whole Atom) ts t rest
+  call_or_leaf_sound (Some x) ts t rest named e =
+      subst (λ (y : List Token). Takes (Nested Whole Atom) y t rest) (sym (name_is ts x.0 x.1 named)) (call_sound x.0 x.1 t rest e)
+  call_or_leaf_sound None ts t rest named e = leaf_case ts t rest e
 
   pub nested_sound : IsSound (Nested Whole Atom) (nested_at whole_at atom)
   unfolding nested_at
@@ -248,21 +314,17 @@ module _ (Whole Atom : Form → List Token → Type 0) (whole_at atom : List Tok
         spelled = brackets t inner.front (subst (λ (y : Form). Whole y inner.front) end.0 inner.spelled);
       }
   nested_sound (tokens.Exclamation ∷ ts) t rest e =
-      let x = bind_some (atom ts) (λ a. Some (Inverse a.0, a.1)) (t, rest) e in
+      let x = bind_some (atom ts) (λ a. Some (Unary Inverse a.0, a.1)) (t, rest) e in
       let inner = atom_is_sound ts x.0.0 x.0.1 x.1 in
-      along (Takes (Nested Whole Atom) (tokens.Exclamation ∷ ts)) (Inverse x.0.0) t x.0.1 rest x.2
+      along (Takes (Nested Whole Atom) (tokens.Exclamation ∷ ts)) (Unary Inverse x.0.0) t x.0.1 rest x.2
       (record { front = tokens.Exclamation ∷ inner.front; whole = ap (λ (y : List Token). tokens.Exclamation ∷ y) inner.whole; spelled = inverse x.0.0 inner.front inner.spelled })
-  nested_sound ts t rest e = leaf_case ts t rest e
+  nested_sound ts t rest e = call_or_leaf_sound (name_at ts) ts t rest refl e
 
 pub atom_sound : (depth : ℕ) → IsSound (IsAtom depth) (atom_at depth)
 unfolding IsAtom atom_at
 atom_sound zero = leaf_sound
 atom_sound (suc depth) =
     nested_sound (IsExpr (IsAtom depth)) (IsAtom depth) (expr_at (atom_at depth)) (atom_at depth) (expr_sound (IsAtom depth) (atom_at depth) (atom_sound depth)) (atom_sound depth)
-
-guard_is : {A : Type 0} (b : Bool) (x y : A) → cond b (Some x) None ≡ Some y → (b ≡ true) × (x ≡ y)
-guard_is true x y e = (refl, cc)
-guard_is false x y e = absurd cc
 
 pub whole_expr_sound : IsSound (IsExpr (IsAtom nesting_limit)) (expr_at (atom_at nesting_limit))
 whole_expr_sound = expr_sound (IsAtom nesting_limit) (atom_at nesting_limit) (atom_sound nesting_limit)

@@ -3,18 +3,20 @@ use Rattle.std.proofs.Common.{◌≡◌, ℕ, zero, suc, ◌+◌, ℤ, List, [],
 use Rattle.moment_core.specs.declared.line.Stamp.{Stamp}
 use Rattle.moment_core.specs.declared.joining.Op.{Op}
 use Rattle.moment_core.specs.declared.joining.Op.TheVariants as operators
+use Rattle.expr_tokens.specs.declared.token.Word.{Word}
 use Rattle.expr_tokens.specs.Plain.{Token}
 use Rattle.expr_tokens.specs.Plain as tokens
+use Rattle.expr_grammar.specs.declared.syntax.BinaryOp.TheVariants.{Infix}
 use Rattle.expr_grammar.specs.declared.syntax.SpanBound.{SpanBound}
 use Rattle.rule_core.specs.declared.part.Freq.{Freq}
 use Rattle.rule_core.specs.declared.part.Freq.TheVariants as freqs
 use Rattle.expr_grammar.specs.declared.syntax.Key.{Key}
 use Rattle.expr_grammar.specs.declared.syntax.Key.TheVariants as keys
 use Rattle.expr_grammar.specs.Fields.{field_tokens, fields_tokens, freq_word, key_word, more_numbers}
-use Rattle.expr_grammar.specs.Form.{FieldForm, Values, Start, Form, Joined}
+use Rattle.expr_grammar.specs.Form.{FieldForm, Values, Start, Form, Binary}
 use Rattle.expr_grammar.specs.Laws.{SpansAreNamed}
 use Rattle.expr_grammar.specs.Spans.{all_names, names, spans_in}
-use Rattle.expr_grammar.specs.Grammar.{Goes, ends, goes, Chain, MoreMoments, closed, more, IsLow, from_start, from_after, IsHigh, to_end, to_before, Bounds, no_bound, low_bound, high_bound, both_bounds, Leaf, empty, listed, span, rule, rrule, Nested, leaf, brackets, inverse, IsExpr, IsAtom, one, two, nesting_limit}
+use Rattle.expr_grammar.specs.Grammar.{Goes, ends, goes, Chain, MoreMoments, closed, more, IsLow, from_start, from_after, IsHigh, to_end, to_before, Bounds, no_bound, low_bound, high_bound, both_bounds, Leaf, empty, listed, span, rule, rrule, CallEnd, during_call, pairs_call, starts_call, ends_call, shift_call, Nested, leaf, brackets, inverse, call, IsExpr, IsAtom, one, two, nesting_limit}
 
 names_append : (xs ys : List Token) → all_names (xs ++ ys) ≡ all_names xs + all_names ys
 names_append [] ys = omega arith
@@ -84,7 +86,7 @@ leaf_names t ts (span a b inner spelled) = omega (arith, names_append inner (tok
 goes_names : (Operand : Form → List Token → Type 0) (op : Op) → Counts Operand → (left t : Form) (ts : List Token) → Goes Operand op left t ts → spans_in left + all_names ts ≡ spans_in t
 goes_names Operand op counts left t ts (ends _) = omega arith
 goes_names Operand op counts left t ts (goes _ b _ xs ys o others) =
-    omega (arith, goes_names Operand op counts (Joined op left b) t ys others, counts b xs o, names_append xs ys)
+    omega (arith, goes_names Operand op counts (Binary (Infix op) left b) t ys others, counts b xs o, names_append xs ys)
 
 chain_names : (Operand : Form → List Token → Type 0) (op : Op) → Counts Operand → Counts (Chain Operand op)
 chain_names Operand op counts t ts j =
@@ -95,10 +97,21 @@ expr_names Atom counts =
     chain_names (Chain (Chain Atom operators.Meet) operators.Minus) operators.Union
     (chain_names (Chain Atom operators.Meet) operators.Minus (chain_names Atom operators.Meet counts))
 
+-- a call's own name is no `span`
+end_names : (Whole : Form → List Token → Type 0) → Counts Whole → (a t : Form) (name : Word) (ts : List Token) → CallEnd Whole a name t ts
+    → names (tokens.Word name) + (spans_in a + all_names ts) ≡ spans_in t
+end_names Whole whole a t name ts (during_call n) = omega arith
+end_names Whole whole a t name ts (pairs_call b inner spelled) = omega (arith, names_append inner (tokens.Close ∷ []), whole b inner spelled)
+end_names Whole whole a t name ts starts_call = omega arith
+end_names Whole whole a t name ts ends_call = omega arith
+end_names Whole whole a t name ts (shift_call n) = omega arith
+
 nested_names : (Whole Atom : Form → List Token → Type 0) → Counts Whole → Counts Atom → Counts (Nested Whole Atom)
 nested_names Whole Atom whole atom t ts (leaf _ _ spelled) = leaf_names t ts spelled
 nested_names Whole Atom whole atom t ts (brackets _ inner spelled) = omega (arith, names_append inner (tokens.Close ∷ []), whole t inner spelled)
 nested_names Whole Atom whole atom t ts (inverse a inner spelled) = omega (arith, atom a inner spelled)
+nested_names Whole Atom whole atom t ts (call name a _ inner others spelled end) =
+    omega (arith, names_append inner others, whole a inner spelled, end_names Whole whole a t name others end)
 
 atom_names : (depth : ℕ) → Counts (IsAtom depth)
 unfolding IsAtom

@@ -4,28 +4,32 @@ use Rattle.std.proofs.lemmas.List.{append-nil}
 use Rattle.moment_core.specs.declared.line.Stamp.{Stamp}
 use Rattle.moment_core.specs.declared.joining.Op.{Op}
 use Rattle.moment_core.specs.declared.joining.Op.TheVariants as operators
+use Rattle.expr_tokens.specs.declared.token.Word.{Word}
 use Rattle.expr_tokens.specs.declared.token.Word.TheVariants as words
 use Rattle.expr_tokens.specs.Plain.{Token}
 use Rattle.expr_tokens.specs.Plain as tokens
+use Rattle.expr_grammar.specs.declared.syntax.BinaryOp.TheVariants.{Infix, Pairs}
 use Rattle.expr_grammar.specs.declared.syntax.SpanBound.{SpanBound}
-use Rattle.expr_grammar.specs.Form.{Form, Empty, Listed, Span, Rule, Rrule, Joined, Inverse}
+use Rattle.expr_grammar.specs.declared.syntax.UnaryOp.{UnaryOp}
+use Rattle.expr_grammar.specs.declared.syntax.UnaryOp.TheVariants.{Inverse, During, Starts, Ends, Shift}
+use Rattle.expr_grammar.specs.Form.{Form, Empty, Listed, Span, Rule, Rrule, Unary, Binary}
 use Rattle.expr_grammar.specs.Fields.{rule_tokens}
-use Rattle.expr_grammar.specs.Grammar.{ends, goes, Chain, MoreMoments, closed, more, IsLow, from_start, from_after, IsHigh, to_end, to_before, Bounds, no_bound, low_bound, high_bound, both_bounds, Leaf, empty, listed, span, rule, rrule, rrule_tokens, leaf, brackets, inverse, IsExpr, IsAtom, Spells, one, two, nesting_limit}
+use Rattle.expr_grammar.specs.Grammar.{ends, goes, Chain, MoreMoments, closed, more, IsLow, from_start, from_after, IsHigh, to_end, to_before, Bounds, no_bound, low_bound, high_bound, both_bounds, Leaf, empty, listed, span, rule, rrule, rrule_tokens, CallEnd, during_call, pairs_call, starts_call, ends_call, shift_call, leaf, brackets, inverse, call, IsExpr, IsAtom, Spells, one, two, nesting_limit}
 use Rattle.expr_grammar.specs.Laws.{PrintedIsSpelled}
-use Rattle.expr_grammar.specs.Nesting.{is_joined, AsOperand, NestsWithin, height, HasTokens, in_brackets, more_tokens, low_word, high_word, bounds_tokens, spelled, spelled_second, IsPrintableForm, IsPrintableSecond}
+use Rattle.expr_grammar.specs.Nesting.{is_joined, AsOperand, OneDeeper, NestsWithin, height, HasTokens, in_brackets, more_tokens, low_word, high_word, bounds_tokens, spelled, spelled_second, IsPrintableForm, IsPrintableSecond}
 
 module _ (Operand : Form → List Token → Type 0) (op : Op) where
   pub alone : (t : Form) (ts : List Token) → Operand t ts → Chain Operand op t ts
   alone t ts h = record { first = t; front = ts; others = []; whole = sym (append-nil ts); begins = h; goes_on = ends t }
 
-  pub pair : (a b : Form) (xs ys : List Token) → Operand a xs → Operand b ys → Chain Operand op (Joined op a b) (xs ++ tokens.Operator op ∷ ys)
+  pub pair : (a b : Form) (xs ys : List Token) → Operand a xs → Operand b ys → Chain Operand op (Binary (Infix op) a b) (xs ++ tokens.Operator op ∷ ys)
   pair a b xs ys first second = record {
     first = a;
     front = xs;
     others = tokens.Operator op ∷ ys ++ [];
     whole = ap (λ (z : List Token). xs ++ tokens.Operator op ∷ z) (sym (append-nil ys));
     begins = first;
-    goes_on = goes a b (Joined op a b) ys [] second (ends (Joined op a b));
+    goes_on = goes a b (Binary (Infix op) a b) ys [] second (ends (Binary (Infix op) a b));
   }
 
 module _ (Atom : Form → List Token → Type 0) where
@@ -34,18 +38,18 @@ module _ (Atom : Form → List Token → Type 0) where
       alone (Chain (Chain Atom operators.Meet) operators.Minus) operators.Union t ts (alone (Chain Atom operators.Meet) operators.Minus t ts (alone Atom operators.Meet t ts h))
 
   -- two atoms and an operator
-  pub joined_expr : (op : Op) (a b : Form) (xs ys : List Token) → Atom a xs → Atom b ys → IsExpr Atom (Joined op a b) (xs ++ tokens.Operator op ∷ ys)
+  pub joined_expr : (op : Op) (a b : Form) (xs ys : List Token) → Atom a xs → Atom b ys → IsExpr Atom (Binary (Infix op) a b) (xs ++ tokens.Operator op ∷ ys)
   joined_expr operators.Union a b xs ys first second =
       pair (Chain (Chain Atom operators.Meet) operators.Minus) operators.Union a b xs ys
       (alone (Chain Atom operators.Meet) operators.Minus a xs (alone Atom operators.Meet a xs first))
       (alone (Chain Atom operators.Meet) operators.Minus b ys (alone Atom operators.Meet b ys second))
   joined_expr operators.Minus a b xs ys first second =
-      alone (Chain (Chain Atom operators.Meet) operators.Minus) operators.Union (Joined operators.Minus a b) (xs ++ tokens.Operator operators.Minus ∷ ys)
+      alone (Chain (Chain Atom operators.Meet) operators.Minus) operators.Union (Binary (Infix operators.Minus) a b) (xs ++ tokens.Operator operators.Minus ∷ ys)
       (pair (Chain Atom operators.Meet) operators.Minus a b xs ys (alone Atom operators.Meet a xs first) (alone Atom operators.Meet b ys second))
   joined_expr operators.Meet a b xs ys first second =
       let ts = xs ++ tokens.Operator operators.Meet ∷ ys in
-      alone (Chain (Chain Atom operators.Meet) operators.Minus) operators.Union (Joined operators.Meet a b) ts
-      (alone (Chain Atom operators.Meet) operators.Minus (Joined operators.Meet a b) ts (pair Atom operators.Meet a b xs ys first second))
+      alone (Chain (Chain Atom operators.Meet) operators.Minus) operators.Union (Binary (Infix operators.Meet) a b) ts
+      (alone (Chain Atom operators.Meet) operators.Minus (Binary (Infix operators.Meet) a b) ts (pair Atom operators.Meet a b xs ys first second))
 
 leaf_atom : (depth : ℕ) (t : Form) (ts : List Token) → Leaf t ts → IsAtom depth t ts
 unfolding IsAtom
@@ -73,9 +77,18 @@ operand_spelled t depth below nests =
     ] in
     go (is_joined t) refl nests
 
-inverse_atom : (t : Form) (ts : List Token) (inner depth : ℕ) → depth ≡ suc inner → IsAtom inner t ts → IsAtom depth (Inverse t) (tokens.Exclamation ∷ ts)
+inverse_atom : (t : Form) (ts : List Token) (inner depth : ℕ) → depth ≡ suc inner → IsAtom inner t ts → IsAtom depth (Unary Inverse t) (tokens.Exclamation ∷ ts)
 unfolding IsAtom
 inverse_atom t ts inner depth e h = rw e (inverse t ts h)
+
+call_atom : (name : Word) (a t : Form) (ts us : List Token) (inner depth : ℕ) → depth ≡ suc inner → IsExpr (IsAtom inner) a ts → CallEnd (IsExpr (IsAtom inner)) a name t us
+    → IsAtom depth t (tokens.Word name ∷ tokens.Open ∷ ts ++ us)
+unfolding IsAtom
+call_atom name a t ts us inner depth e h end = rw e (call name a t ts us h end)
+
+unary_atom : (op : UnaryOp) (name : Word) (a : Form) (us : List Token) (depth : ℕ) → ((d : ℕ) → NestsWithin a d → IsSpelled a d) → (nests : OneDeeper (NestsWithin a) depth)
+    → CallEnd (IsExpr (IsAtom nests.0)) a name (Unary op a) us → IsAtom depth (Unary op a) (tokens.Word name ∷ tokens.Open ∷ spelled a ++ us)
+unary_atom op name a us depth below nests end = call_atom name a (Unary op a) (spelled a) us nests.0 depth nests.1 (below nests.0 nests.2).expr end
 
 more_spelled : (ms : List (Option Stamp)) → MoreMoments ms (more_tokens ms)
 more_spelled [] = closed
@@ -107,14 +120,23 @@ is_spelled (Span a b) depth full nests =
 is_spelled (Rule freq fields) depth full nests = from_atom (Rule freq fields) depth (leaf_atom depth (Rule freq fields) (rule_tokens freq fields) (rule freq fields full))
 is_spelled (Rrule text start) depth full nests =
     from_atom (Rrule text start) depth (leaf_atom depth (Rrule text start) (rrule_tokens text start) (rrule text start))
-is_spelled (Joined op a b) depth full nests =
+is_spelled (Binary (Infix op) a b) depth full nests =
     let xs = in_brackets (is_joined a) (spelled a) in
     let ys = in_brackets (is_joined b) (spelled b) in
     let first : IsAtom depth a xs = operand_spelled a depth (λ d h. is_spelled a d full.0 h) nests.0 in
     let second : IsAtom depth b ys = operand_spelled b depth (λ d h. is_spelled b d full.1 h) nests.1 in
     record { expr = joined_expr (IsAtom depth) op a b xs ys first second; atom = λ e. absurd cc }
-is_spelled (Inverse t) depth full nests =
-    from_atom (Inverse t) depth (inverse_atom t (in_brackets (is_joined t) (spelled t)) nests.0 depth nests.1 (operand_spelled t nests.0 (λ d h. is_spelled t d full h) nests.2))
+is_spelled (Binary Pairs a b) depth full nests =
+    let end = pairs_call b (spelled b) (is_spelled b nests.0 full.1 nests.2.1).expr in
+    from_atom (Binary Pairs a b) depth (call_atom words.Pairs a (Binary Pairs a b) (spelled a) (tokens.Comma ∷ spelled b ++ tokens.Close ∷ []) nests.0 depth nests.1 (is_spelled a nests.0 full.0 nests.2.0).expr end)
+is_spelled (Unary (During n) a) depth full nests =
+    from_atom (Unary (During n) a) depth (unary_atom (During n) words.During a (tokens.Comma ∷ tokens.Number n ∷ tokens.Close ∷ []) depth (λ d h. is_spelled a d full h) nests (during_call n))
+is_spelled (Unary Starts a) depth full nests = from_atom (Unary Starts a) depth (unary_atom Starts words.Starts a (tokens.Close ∷ []) depth (λ d h. is_spelled a d full h) nests starts_call)
+is_spelled (Unary Ends a) depth full nests = from_atom (Unary Ends a) depth (unary_atom Ends words.Ends a (tokens.Close ∷ []) depth (λ d h. is_spelled a d full h) nests ends_call)
+is_spelled (Unary (Shift n) a) depth full nests =
+    from_atom (Unary (Shift n) a) depth (unary_atom (Shift n) words.Shift a (tokens.Comma ∷ tokens.Number n ∷ tokens.Close ∷ []) depth (λ d h. is_spelled a d full h) nests (shift_call n))
+is_spelled (Unary Inverse t) depth full nests =
+    from_atom (Unary Inverse t) depth (inverse_atom t (in_brackets (is_joined t) (spelled t)) nests.0 depth nests.1 (operand_spelled t nests.0 (λ d h. is_spelled t d full h) nests.2))
 
 height_positive : (t : Form) → 0 < height t
 unfolding height
@@ -123,8 +145,8 @@ height_positive (Listed ms) = omega arith
 height_positive (Span a b) = omega arith
 height_positive (Rule freq fields) = omega arith
 height_positive (Rrule text start) = omega arith
-height_positive (Joined op a b) = omega arith
-height_positive (Inverse t) = omega arith
+height_positive (Unary op a) = omega arith
+height_positive (Binary op a b) = omega arith
 
 -- an expression of a height nests one less deep, also as an operand
 pub record IsShallow (t : Form) (depth : ℕ) : Type 0 where
@@ -138,18 +160,27 @@ is_shallow (Listed ms) depth le = record { alone = tt; operand = tt }
 is_shallow (Span a b) depth le = record { alone = tt; operand = tt }
 is_shallow (Rule freq fields) depth le = record { alone = tt; operand = tt }
 is_shallow (Rrule text start) depth le = record { alone = tt; operand = tt }
-is_shallow (Joined op a b) zero le = absurd (omega (arith, height_positive a, le))
-is_shallow (Joined op a b) (suc depth) le =
+is_shallow (Unary op t) zero le = absurd (omega (arith, height_positive t, le))
+is_shallow (Unary Inverse t) (suc depth) le =
+    let inner : height t ≤ suc depth = omega (arith, le) in
+    let h : NestsWithin (Unary Inverse t) (suc depth) = (depth, refl, (is_shallow t depth inner).operand) in
+    record { alone = h; operand = h }
+is_shallow (Unary op t) (suc depth) le =
+    let inner : height t ≤ suc depth = omega (arith, le) in
+    let h : NestsWithin (Unary op t) (suc depth) = (depth, refl, (is_shallow t depth inner).alone) in
+    record { alone = h; operand = h }
+is_shallow (Binary op a b) zero le = absurd (omega (arith, height_positive a, le))
+is_shallow (Binary (Infix op) a b) (suc depth) le =
     let left : height a ≤ suc depth = omega (arith, le) in
     let right : height b ≤ suc depth = omega (arith, le) in
     record {
       alone = ((is_shallow a (suc depth) (omega (arith, left))).operand, (is_shallow b (suc depth) (omega (arith, right))).operand);
       operand = (depth, refl, ((is_shallow a depth left).operand, (is_shallow b depth right).operand));
     }
-is_shallow (Inverse t) zero le = absurd (omega (arith, height_positive t, le))
-is_shallow (Inverse t) (suc depth) le =
-    let inner : height t ≤ suc depth = omega (arith, le) in
-    let h : NestsWithin (Inverse t) (suc depth) = (depth, refl, (is_shallow t depth inner).operand) in
+is_shallow (Binary Pairs a b) (suc depth) le =
+    let left : height a ≤ suc depth = omega (arith, le) in
+    let right : height b ≤ suc depth = omega (arith, le) in
+    let h : NestsWithin (Binary Pairs a b) (suc depth) = (depth, refl, ((is_shallow a depth left).alone, (is_shallow b depth right).alone)) in
     record { alone = h; operand = h }
 
 whole_spelled : (t : Form) → IsPrintableForm t → IsExpr (IsAtom nesting_limit) t (spelled t)

@@ -1,10 +1,11 @@
 -- Expressions as they are written, with what their tokens held.
 use Rattle.std.specs.Prelude.{ℕ, ℤ, List, Option}
-use Rattle.moment_core.specs.declared.joining.Op.{Op}
 use Rattle.moment_core.specs.declared.line.Stamp.{Stamp}
 use Rattle.rule_core.specs.declared.part.Freq.{Freq}
+use Rattle.expr_grammar.specs.declared.syntax.BinaryOp.{BinaryOp}
 use Rattle.expr_grammar.specs.declared.syntax.Key.{Key}
 use Rattle.expr_grammar.specs.declared.syntax.SpanBound.{SpanBound}
+use Rattle.expr_grammar.specs.declared.syntax.UnaryOp.{UnaryOp}
 
 -- a key and its numbers, or `start` and the stamp of its literal
 pub data FieldForm : Type 0 where
@@ -19,8 +20,8 @@ pub data Form : Type 0 where
   Span : (low high : Option SpanBound) → Form
   Rule : (freq : Freq) (fields : List FieldForm) → Form
   Rrule : (text : List ℕ) (start : Option Stamp) → Form
-  Joined : (op : Op) (a b : Form) → Form
-  Inverse : (a : Form) → Form
+  Unary : (op : UnaryOp) (a : Form) → Form
+  Binary : (op : BinaryOp) (a b : Form) → Form
 
 -- one expression, or two
 pub record Forms : Type 0 where

@@ -1,14 +1,17 @@
 -- Which tokens spell an expression, by the cases of the grammar.
-use Rattle.std.specs.Prelude.{◌≡◌, ℕ, zero, suc, true, false, List, [], ◌∷◌, ◌++◌, Option, Some, None}
+use Rattle.std.specs.Prelude.{◌≡◌, ℕ, zero, suc, ℤ, true, false, List, [], ◌∷◌, ◌++◌, Option, Some, None}
 use Rattle.moment_core.specs.declared.line.Stamp.{Stamp}
 use Rattle.moment_core.specs.declared.joining.Op.{Op}
 use Rattle.moment_core.specs.declared.joining.Op.TheVariants as operators
 use Rattle.rule_core.specs.declared.part.Freq.{Freq}
+use Rattle.expr_tokens.specs.declared.token.Word.{Word}
 use Rattle.expr_tokens.specs.declared.token.Word.TheVariants as words
 use Rattle.expr_tokens.specs.Plain.{Token}
 use Rattle.expr_tokens.specs.Plain as tokens
+use Rattle.expr_grammar.specs.declared.syntax.BinaryOp.TheVariants.{Infix, Pairs}
 use Rattle.expr_grammar.specs.declared.syntax.SpanBound.{SpanBound}
-use Rattle.expr_grammar.specs.Form.{FieldForm, Form, Empty, Listed, Span, Rule, Rrule, Joined, Inverse, Forms}
+use Rattle.expr_grammar.specs.declared.syntax.UnaryOp.TheVariants.{Inverse, During, Starts, Ends, Shift}
+use Rattle.expr_grammar.specs.Form.{FieldForm, Form, Empty, Listed, Span, Rule, Rrule, Unary, Binary, Forms}
 use Rattle.expr_grammar.specs.Fields.{AreFields, rule_tokens}
 
 -- { op operand }, each joined to what stands to its left
@@ -16,7 +19,7 @@ pub data Goes (Operand : Form → List Token → Type 0) (op : Op) : Form → Fo
     → Type 0 where
   ends : (t : Form) → Goes Operand op t t []
   goes : (left b t : Form) (xs ys : List Token) → Operand b xs
-      → Goes Operand op (Joined op left b) t ys
+      → Goes Operand op (Binary (Infix op) left b) t ys
       → Goes Operand op left t (tokens.Operator op ∷ xs ++ ys)
 
 -- operand { op operand }
@@ -80,21 +83,38 @@ pub data Leaf : Form → List Token → Type 0 where
       → Leaf (Rule freq fields) (rule_tokens freq fields)
   rrule : (text : List ℕ) (start : Option Stamp) → Leaf (Rrule text start) (rrule_tokens text start)
 
--- An atom. Whole says what stands within one more pair of brackets, and Atom what stands behind one
--- more sign.
+-- The end of a call, behind its first expression: by the call's name what it makes of that
+-- expression, and the tokens up to its bracket.
+pub data CallEnd (Whole : Form → List Token → Type 0) (a : Form) : Word → Form → List Token
+    → Type 0 where
+  during_call : (n : ℤ)
+      → CallEnd Whole a words.During (Unary (During n) a)
+      (tokens.Comma ∷ tokens.Number n ∷ tokens.Close ∷ [])
+  pairs_call : (b : Form) (ts : List Token) → Whole b ts
+      → CallEnd Whole a words.Pairs (Binary Pairs a b) (tokens.Comma ∷ ts ++ tokens.Close ∷ [])
+  starts_call : CallEnd Whole a words.Starts (Unary Starts a) (tokens.Close ∷ [])
+  ends_call : CallEnd Whole a words.Ends (Unary Ends a) (tokens.Close ∷ [])
+  shift_call : (n : ℤ)
+      → CallEnd Whole a words.Shift (Unary (Shift n) a)
+      (tokens.Comma ∷ tokens.Number n ∷ tokens.Close ∷ [])
+
+-- An atom. Whole says what stands within one more pair of brackets, those of a call among them, and
+-- Atom what stands behind one more sign.
 pub data Nested (Whole Atom : Form → List Token → Type 0) : Form → List Token → Type 0 where
   leaf : (t : Form) (ts : List Token) → Leaf t ts → Nested Whole Atom t ts
   brackets : (t : Form) (ts : List Token) → Whole t ts
       → Nested Whole Atom t (tokens.Open ∷ ts ++ tokens.Close ∷ [])
   inverse : (t : Form) (ts : List Token) → Atom t ts
-      → Nested Whole Atom (Inverse t) (tokens.Exclamation ∷ ts)
+      → Nested Whole Atom (Unary Inverse t) (tokens.Exclamation ∷ ts)
+  call : (name : Word) (a t : Form) (ts us : List Token) → Whole a ts → CallEnd Whole a name t us
+      → Nested Whole Atom t (tokens.Word name ∷ tokens.Open ∷ ts ++ us)
 
 -- an atom whose round brackets and signs nest at most so deep
 unfoldable pub IsAtom : ℕ → Form → List Token → Type 0
 IsAtom zero = Leaf
 IsAtom (suc depth) = Nested (IsExpr (IsAtom depth)) (IsAtom depth)
 
--- how deep round brackets and signs may nest
+-- how deep round brackets and signs may nest, with the brackets of calls that take an expression
 abbrev pub nesting_limit : ℕ
 nesting_limit = 128
 

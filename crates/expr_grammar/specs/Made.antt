@@ -7,7 +7,7 @@ use Rattle.expr_tokens.specs.Plain.{Token}
 use Rattle.expr_tokens.specs.Plain as tokens
 use Rattle.expr_grammar.specs.declared.syntax.SpanBound.{SpanBound}
 use Rattle.expr_grammar.specs.Fields.{AreFields}
-use Rattle.expr_grammar.specs.Form.{FieldForm, Values, Start, Form, Empty, Listed, Span, Rule, Rrule, Joined, Inverse, Forms}
+use Rattle.expr_grammar.specs.Form.{FieldForm, Values, Start, Form, Empty, Listed, Span, Rule, Rrule, Unary, Binary, Forms}
 
 -- the literal names a moment of the calendar range
 abbrev pub IsDated : Option Stamp → Type 0
@@ -36,8 +36,8 @@ IsMade P (Listed (m ∷ ms)) = P m × AllByRecursion P ms
 IsMade P (Span low high) = BoundHas P low × BoundHas P high
 IsMade P (Rule freq fields) = AllByRecursion (FieldHas P) fields × AreFields fields
 IsMade P (Rrule text start) = P start
-IsMade P (Joined op a b) = IsMade P a × IsMade P b
-IsMade P (Inverse a) = IsMade P a
+IsMade P (Unary op a) = IsMade P a
+IsMade P (Binary op a b) = IsMade P a × IsMade P b
 
 abbrev pub IsMadeSecond : (Option Stamp → Type 0) → Option Form → Type 0
 IsMadeSecond P None = Unit {0}

@@ -1,19 +1,21 @@
--- Printed expressions: which operands stand in brackets, how deep the brackets and signs nest, and
--- the tokens.
+-- Printed expressions: which operands stand in brackets, how deep brackets and signs nest, and the
+-- tokens.
 use Rattle.std.specs.Prelude.{◌≡◌, ◌≤◌, ℕ, suc, max, Bool, true, false, List, [], ◌∷◌, ◌++◌, Option, Some, None}
 use Rattle.moment_core.specs.declared.line.Stamp.{Stamp}
 use Rattle.expr_tokens.specs.declared.token.Word.{Word}
 use Rattle.expr_tokens.specs.declared.token.Word.TheVariants as words
 use Rattle.expr_tokens.specs.Plain.{Token}
 use Rattle.expr_tokens.specs.Plain as tokens
+use Rattle.expr_grammar.specs.declared.syntax.BinaryOp.TheVariants.{Infix, Pairs}
 use Rattle.expr_grammar.specs.declared.syntax.SpanBound.{SpanBound}
+use Rattle.expr_grammar.specs.declared.syntax.UnaryOp.TheVariants.{Inverse, During, Starts, Ends, Shift}
 use Rattle.expr_grammar.specs.Fields.{AreFields, rule_tokens}
-use Rattle.expr_grammar.specs.Form.{Form, Empty, Listed, Span, Rule, Rrule, Joined, Inverse, Forms}
+use Rattle.expr_grammar.specs.Form.{Form, Empty, Listed, Span, Rule, Rrule, Unary, Binary, Forms}
 use Rattle.expr_grammar.specs.Grammar.{nesting_limit, rrule_tokens}
 
 -- An operand that is itself joined by an operator stands in brackets.
 abbrev pub is_joined : Form → Bool
-is_joined (Joined op a b) = true
+is_joined (Binary (Infix op) a b) = true
 is_joined t = false
 
 -- within one more pair of brackets, or behind one more sign
@@ -24,16 +26,20 @@ abbrev pub AsOperand : Bool → (ℕ → Type 0) → ℕ → Type 0
 AsOperand true Nests depth = OneDeeper Nests depth
 AsOperand false Nests depth = Nests depth
 
--- the brackets and signs of the printed form nest at most so deep
+-- the brackets and signs of the printed form nest at most so deep, with those of each call that
+-- takes an expression
 unfoldable pub NestsWithin : Form → ℕ → Type 0
 NestsWithin Empty depth = Unit {0}
 NestsWithin (Listed ms) depth = Unit {0}
 NestsWithin (Span low high) depth = Unit {0}
 NestsWithin (Rule freq fields) depth = Unit {0}
 NestsWithin (Rrule text start) depth = Unit {0}
-NestsWithin (Joined op a b) depth =
+NestsWithin (Unary Inverse a) depth = OneDeeper (AsOperand (is_joined a) (NestsWithin a)) depth
+NestsWithin (Unary op a) depth = OneDeeper (NestsWithin a) depth
+NestsWithin (Binary (Infix op) a b) depth =
     AsOperand (is_joined a) (NestsWithin a) depth × AsOperand (is_joined b) (NestsWithin b) depth
-NestsWithin (Inverse t) depth = OneDeeper (AsOperand (is_joined t) (NestsWithin t)) depth
+NestsWithin (Binary Pairs a b) depth =
+    OneDeeper (λ inner. NestsWithin a inner × NestsWithin b inner) depth
 
 -- how many expressions stand in one another
 unfoldable pub height : Form → ℕ
@@ -42,8 +48,8 @@ height (Listed ms) = 1
 height (Span low high) = 1
 height (Rule freq fields) = 1
 height (Rrule text start) = 1
-height (Joined op a b) = suc (max (height a) (height b))
-height (Inverse t) = suc (height t)
+height (Unary op a) = suc (height a)
+height (Binary op a b) = suc (max (height a) (height b))
 
 -- no list is empty, and each rule has its numbers and each key once
 unfoldable pub HasTokens : Form → Type 0
@@ -53,8 +59,8 @@ HasTokens (Listed (m ∷ ms)) = Unit {0}
 HasTokens (Span low high) = Unit {0}
 HasTokens (Rule freq fields) = AreFields fields
 HasTokens (Rrule text start) = Unit {0}
-HasTokens (Joined op a b) = HasTokens a × HasTokens b
-HasTokens (Inverse t) = HasTokens t
+HasTokens (Unary op a) = HasTokens a
+HasTokens (Binary op a b) = HasTokens a × HasTokens b
 
 abbrev pub in_brackets : Bool → List Token → List Token
 in_brackets true ts = tokens.Open ∷ ts ++ tokens.Close ∷ []
@@ -92,10 +98,22 @@ spelled (Rule freq fields) = rule_tokens freq fields
 spelled (Rrule text start) = rrule_tokens text start
 spelled (Span low high) =
     tokens.Word words.Span ∷ tokens.Open ∷ bounds_tokens low high ++ tokens.Close ∷ []
-spelled (Joined op a b) =
+spelled (Unary Inverse a) = tokens.Exclamation ∷ in_brackets (is_joined a) (spelled a)
+spelled (Unary (During n) a) =
+    tokens.Word words.During ∷ tokens.Open ∷ spelled a ++ tokens.Comma ∷ tokens.Number n
+    ∷ tokens.Close ∷ []
+spelled (Unary Starts a) =
+    tokens.Word words.Starts ∷ tokens.Open ∷ spelled a ++ tokens.Close ∷ []
+spelled (Unary Ends a) = tokens.Word words.Ends ∷ tokens.Open ∷ spelled a ++ tokens.Close ∷ []
+spelled (Unary (Shift n) a) =
+    tokens.Word words.Shift ∷ tokens.Open ∷ spelled a ++ tokens.Comma ∷ tokens.Number n
+    ∷ tokens.Close ∷ []
+spelled (Binary (Infix op) a b) =
     in_brackets (is_joined a) (spelled a) ++ tokens.Operator op ∷ in_brackets (is_joined b)
     (spelled b)
-spelled (Inverse t) = tokens.Exclamation ∷ in_brackets (is_joined t) (spelled t)
+spelled (Binary Pairs a b) =
+    tokens.Word words.Pairs ∷ tokens.Open ∷ spelled a
+    ++ (tokens.Comma ∷ spelled b ++ tokens.Close ∷ [])
 
 abbrev pub spelled_second : Option Form → List Token
 spelled_second None = []

@@ -17,15 +17,18 @@ use Rattle.expr_tokens.specs.Plain.{Token, plains}
 use Rattle.expr_tokens.specs.Plain as tokens
 use Rattle.expr_grammar.specs.declared.fault.ParseFault.{ParseFault}
 use Rattle.expr_grammar.specs.declared.fault.ParseFault.TheVariants as faults
+use Rattle.expr_grammar.specs.declared.syntax.BinaryOp.TheVariants.{Infix, Pairs}
 use Rattle.expr_grammar.specs.declared.syntax.Field.{Field}
 use Rattle.expr_grammar.specs.declared.syntax.Key.{Key}
 use Rattle.expr_grammar.specs.declared.syntax.Key.TheVariants as keys
 use Rattle.expr_grammar.specs.declared.syntax.SpanBound.{SpanBound}
 use Rattle.expr_grammar.specs.declared.syntax.SyntaxTree.{SyntaxTree}
+use Rattle.expr_grammar.specs.declared.syntax.UnaryOp.{UnaryOp}
+use Rattle.expr_grammar.specs.declared.syntax.UnaryOp.TheVariants.{Inverse, During, Starts, Ends, Shift}
 use Rattle.expr_grammar.specs.Syntax.{field_form, form_of}
 use Rattle.expr_grammar.specs.Fields.{is_single, same_key}
 use Rattle.expr_grammar.specs.Grammar.{nesting_limit}
-use Rattle.expr_grammar.specs.Form.{FieldForm, Values, Start, Form, Empty, Listed, Span, Rule, Rrule, Joined, Inverse, Forms}
+use Rattle.expr_grammar.specs.Form.{FieldForm, Values, Start, Form, Empty, Listed, Span, Rule, Rrule, Unary, Binary, Forms}
 
 -- What a function returned, seen by view, is what reading gives, unless memory ran out.
 abbrev pub Fails : {Y : Type 0} → ParseFault → Option Y → Type 0
@@ -64,7 +67,7 @@ stands op ts = false
 unfoldable pub chain_from : (List Token → Read) → Op → ℕ → Form → List Token → Read
 chain_from operand op zero left ts = Some (left, ts)
 chain_from operand op (suc n) left ts = if stands op ts
-    then operand (drop 1 ts) >>= (λ b. chain_from operand op n (Joined op left b.0) b.1)
+    then operand (drop 1 ts) >>= (λ b. chain_from operand op n (Binary (Infix op) left b.0) b.1)
     else Some (left, ts)
 
 unfoldable pub chain_at : (List Token → Read) → Op → List Token → Read
@@ -232,10 +235,50 @@ leaf_at (tokens.Word words.Rrule ∷ tokens.Open ∷ ts) = rrule_at ts
 leaf_at (tokens.LeftBrace ∷ ts) = list_at ts >>= λ ms. Some (Listed ms.0, ms.1)
 leaf_at ts = rule_at ts
 
+abbrev pub takes_expression : Word → Bool
+takes_expression words.During = true
+takes_expression words.Pairs = true
+takes_expression words.Starts = true
+takes_expression words.Ends = true
+takes_expression words.Shift = true
+takes_expression w = false
+
+-- the name of a call that takes an expression, and the tokens behind its bracket
+abbrev pub name_at : List Token → Option (Word × List Token)
+name_at (tokens.Word w ∷ tokens.Open ∷ ts) = if takes_expression w then Some (w, ts) else None
+name_at ts = None
+
+-- the end of a call of one expression
+abbrev pub unary_end_at : Word → List Token → Option (UnaryOp × List Token)
+unary_end_at words.During (tokens.Comma ∷ tokens.Number n ∷ tokens.Close ∷ ts) =
+    Some (During n, ts)
+unary_end_at words.Starts (tokens.Close ∷ ts) = Some (Starts, ts)
+unary_end_at words.Ends (tokens.Close ∷ ts) = Some (Ends, ts)
+unary_end_at words.Shift (tokens.Comma ∷ tokens.Number n ∷ tokens.Close ∷ ts) = Some (Shift n, ts)
+unary_end_at w ts = None
+
+-- "," expr ")"
+unfoldable pub pairs_end_at : (List Token → Read) → Form → List Token → Read
+pairs_end_at whole a (tokens.Comma ∷ ts) = whole ts >>= λ b. close_at (Binary Pairs a b.0) b.1
+pairs_end_at whole a ts = None
+
+-- the end of a call, behind its first expression
+unfoldable pub call_end_at : (List Token → Read) → Word → Form → List Token → Read
+call_end_at whole words.Pairs a ts = pairs_end_at whole a ts
+call_end_at whole w a ts = unary_end_at w ts >>= λ x. Some (Unary x.0 a, x.1)
+
+unfoldable pub call_at : (List Token → Read) → Word → List Token → Read
+call_at whole w ts = whole ts >>= λ a. call_end_at whole w a.0 a.1
+
+-- a call that takes an expression, or an atom without one in it
+abbrev pub call_or_leaf : (List Token → Read) → Option (Word × List Token) → List Token → Read
+call_or_leaf whole (Some x) ts = call_at whole x.0 x.1
+call_or_leaf whole None ts = leaf_at ts
+
 unfoldable pub nested_at : (List Token → Read) → (List Token → Read) → List Token → Read
 nested_at whole atom (tokens.Open ∷ ts) = whole ts >>= λ a. close_at a.0 a.1
-nested_at whole atom (tokens.Exclamation ∷ ts) = atom ts >>= λ a. Some (Inverse a.0, a.1)
-nested_at whole atom ts = leaf_at ts
+nested_at whole atom (tokens.Exclamation ∷ ts) = atom ts >>= λ a. Some (Unary Inverse a.0, a.1)
+nested_at whole atom ts = call_or_leaf whole (name_at ts) ts
 
 unfoldable pub atom_at : ℕ → List Token → Read
 atom_at zero = leaf_at

@@ -3,7 +3,7 @@ use Rattle.std.specs.Prelude.{ℕ, ◌+◌, List, [], ◌∷◌, Option, Some, N
 use Rattle.expr_tokens.specs.declared.token.Word.TheVariants as words
 use Rattle.expr_tokens.specs.Plain.{Token}
 use Rattle.expr_tokens.specs.Plain as tokens
-use Rattle.expr_grammar.specs.Form.{Form, Empty, Listed, Span, Rule, Rrule, Joined, Inverse, Forms}
+use Rattle.expr_grammar.specs.Form.{Form, Empty, Listed, Span, Rule, Rrule, Unary, Binary, Forms}
 
 abbrev pub names : Token → ℕ
 names (tokens.Word words.Span) = 1
@@ -19,8 +19,8 @@ spans_in (Listed ms) = 0
 spans_in (Span low high) = 1
 spans_in (Rule freq fields) = 0
 spans_in (Rrule text start) = 0
-spans_in (Joined op a b) = spans_in a + spans_in b
-spans_in (Inverse a) = spans_in a
+spans_in (Unary op a) = spans_in a
+spans_in (Binary op a b) = spans_in a + spans_in b
 
 abbrev pub second_in : Option Form → ℕ
 second_in None = 0

@@ -11,7 +11,7 @@ use Rattle.expr_grammar.specs.declared.syntax.SyntaxTree.{SyntaxTree}
 use Rattle.expr_grammar.specs.declared.syntax.SyntaxTree.TheVariants as trees
 use Rattle.expr_grammar.specs.declared.syntax.SyntaxTrees.{SyntaxTrees}
 use Rattle.expr_grammar.specs.Fields.{same_key}
-use Rattle.expr_grammar.specs.Form.{FieldForm, Values, Start, Form, Empty, Listed, Span, Rule, Rrule, Joined, Inverse, Forms}
+use Rattle.expr_grammar.specs.Form.{FieldForm, Values, Start, Form, Empty, Listed, Span, Rule, Rrule, Unary, Binary, Forms}
 
 abbrev pub field_form : Field → FieldForm
 field_form (fields.Values key v) = Values key v.items
@@ -23,8 +23,8 @@ form_of (trees.List v) = Listed v.items
 form_of (trees.Span place low high) = Span low high
 form_of (trees.Rule freq v) = Rule freq (map field_form v.items)
 form_of (trees.Rrule v start) = Rrule v.items start
-form_of (trees.Joined' op x a y b) = Joined op (form_of a) (form_of b)
-form_of (trees.Inverse' x a) = Inverse (form_of a)
+form_of (trees.Unary' op x a) = Unary op (form_of a)
+form_of (trees.Binary' op x a y b) = Binary op (form_of a) (form_of b)
 
 abbrev pub second_form : Option SyntaxTree → Option Form
 second_form None = None
@@ -40,8 +40,8 @@ places_of (trees.List v) = []
 places_of (trees.Span place low high) = place ∷ []
 places_of (trees.Rule freq v) = []
 places_of (trees.Rrule v start) = []
-places_of (trees.Joined' op x a y b) = places_of a ++ places_of b
-places_of (trees.Inverse' x a) = places_of a
+places_of (trees.Unary' op x a) = places_of a
+places_of (trees.Binary' op x a y b) = places_of a ++ places_of b
 
 abbrev pub second_places : Option SyntaxTree → List ℕ
 second_places None = []

@@ -10,4 +10,4 @@ mod syntax;
 pub use fault::ParseFault;
 pub use laws::grammar_laws;
 pub use parser::{NESTING_LIMIT, parse};
-pub use syntax::{Field, Key, SpanBound, SyntaxTree, SyntaxTrees};
+pub use syntax::{BinaryOp, Field, Key, SpanBound, SyntaxTree, SyntaxTrees, UnaryOp};

@@ -4,11 +4,13 @@ ghost use Rattle.expr_grammar.specs.Form.{Form, Forms, Listed, Span};
 ghost use Rattle.expr_grammar.specs.Syntax.{HasPlaces, KeepsPlaces, form_of, forms_of, places_of, all_places_of, span_places};
 ghost use Rattle.expr_grammar.specs.Moments.{IsNextMoment};
 ghost use Rattle.expr_grammar.specs.Grammar.{SpellNothing, Spells};
-ghost use Rattle.expr_grammar.specs.Parsing.{Gives, ReadsMoments, ReadsTree, deeper_at, operands_at, stands, moment_at, list_at, moments_at, moments_end_at, with_first, close_at, high_at, high_end_at, low_end_at, span_at, rrule_at, leaf_at, atom_at, expr_at, nested_at, operand_at, chain_at, program_end_at, program_at, second_at};
+ghost use Rattle.expr_grammar.specs.Parsing.{Gives, ReadsMoments, ReadsTree, deeper_at, operands_at, stands, moment_at, list_at, moments_at, moments_end_at, with_first, close_at, high_at, high_end_at, low_end_at, span_at, rrule_at, leaf_at, atom_at, expr_at, call_at, call_end_at, name_at, nested_at, operand_at, pairs_end_at, chain_at, program_end_at, program_at, second_at, takes_expression, unary_end_at};
 
 use crate::fault::ParseFault;
 use crate::fields::rule;
-use crate::syntax::{SpanBound, SyntaxTree, SyntaxTrees, inverse, joined, spanned};
+use crate::syntax::{
+    BinaryOp, SpanBound, SyntaxTree, SyntaxTrees, UnaryOp, binary, spanned, unary,
+};
 use expr_tokens::{Token, Word};
 use moment_core::{Op, Stamp};
 use std::alloc::Global;
@@ -252,6 +254,118 @@ fn leaf<'t, 'a>(
     }
 }
 
+/// Whether the word is the name of a call that takes an expression.
+fn takes_expression(word: Word) -> bool
+    ensures { result ≡ takes_expression word }
+{
+    matches!(
+        word,
+        Word::During | Word::Pairs | Word::Starts | Word::Ends | Word::Shift
+    )
+}
+
+/// The name of such a call, and the tokens behind its bracket.
+fn name<'t, 'a>(tokens: &'t [Token<'a>]) -> Option<(Word, &'t [Token<'a>])>
+    ensures none { IfNone result (name_at (plains tokens.now) ≡ None) }
+    ensures some { IfSome result (λ x. name_at (plains tokens.now) ≡ Some (x.0, plains x.1.now)) }
+    ensures places { IfSome result (λ x. span_places tokens.now ≡ span_places x.1.now) }
+    ensures shorter { IfSome result (λ x. length x.1.now ≤ length tokens.now) }
+{
+    match tokens {
+        [Token::Word(word, _), Token::Open, rest @ ..] if takes_expression(*word) => {
+            Some((*word, rest))
+        }
+        _ => None,
+    }
+}
+
+/// The end of a call of one expression.
+fn unary_end<'t, 'a>(
+    name: Word,
+    tokens: &'t [Token<'a>],
+) -> Result<(UnaryOp, &'t [Token<'a>]), ParseFault>
+    ensures read { Gives (λ x. (x.0, plains x.1.now)) result
+        (unary_end_at name (plains tokens.now)) }
+    ensures places { IfOk result (λ x. span_places tokens.now ≡ span_places x.1.now) }
+    ensures shorter { IfOk result (λ x. length x.1.now ≤ length tokens.now) }
+{
+    match (name, tokens) {
+        (Word::Starts, [Token::Close, rest @ ..]) => Ok((UnaryOp::Starts, rest)),
+        (Word::Ends, [Token::Close, rest @ ..]) => Ok((UnaryOp::Ends, rest)),
+        (Word::During, [Token::Comma, Token::Number(n), Token::Close, rest @ ..]) => {
+            Ok((UnaryOp::During(*n), rest))
+        }
+        (Word::Shift, [Token::Comma, Token::Number(n), Token::Close, rest @ ..]) => {
+            Ok((UnaryOp::Shift(*n), rest))
+        }
+        _ => Err(ParseFault::Syntax),
+    }
+}
+
+/// The second expression of a call, and the bracket behind it.
+#[cycle(expression)]
+#[tactic(auto, unfolding(crate::specs::Parsing::pairs_end_at))]
+fn pairs_end<'t, 'a>(
+    alloc: Global,
+    first: SyntaxTree,
+    tokens: &'t [Token<'a>],
+    depth: u8,
+) -> Result<(SyntaxTree, &'t [Token<'a>]), ParseFault>
+    ensures read { ReadsTree result
+        (pairs_end_at (expr_at (atom_at depth)) (form_of first) (plains tokens.now)) }
+    ensures places { IfOk result (KeepsPlaces (places_of first ++ span_places tokens.now)) }
+    ensures shorter { IfOk result (λ x. length x.1.now ≤ length tokens.now) }
+{
+    match tokens {
+        [Token::Comma, inner @ ..] => {
+            let (second, rest) = chain(alloc, Op::Union, inner, depth)?;
+            close(binary(alloc, BinaryOp::Pairs, first, second)?, rest)
+        }
+        _ => Err(ParseFault::Syntax),
+    }
+}
+
+/// The end of a call, behind its first expression.
+#[cycle(expression)]
+#[tactic(auto, unfolding(crate::specs::Parsing::call_end_at))]
+fn call_end<'t, 'a>(
+    alloc: Global,
+    name: Word,
+    first: SyntaxTree,
+    tokens: &'t [Token<'a>],
+    depth: u8,
+) -> Result<(SyntaxTree, &'t [Token<'a>]), ParseFault>
+    ensures read { ReadsTree result
+        (call_end_at (expr_at (atom_at depth)) name (form_of first) (plains tokens.now)) }
+    ensures places { IfOk result (KeepsPlaces (places_of first ++ span_places tokens.now)) }
+    ensures shorter { IfOk result (λ x. length x.1.now ≤ length tokens.now) }
+{
+    match name {
+        Word::Pairs => pairs_end(alloc, first, tokens, depth),
+        _ => {
+            let (op, rest) = unary_end(name, tokens)?;
+            Ok((unary(alloc, op, first)?, rest))
+        }
+    }
+}
+
+/// A call that takes an expression, behind its bracket.
+#[cycle(expression)]
+#[tactic(auto, unfolding(crate::specs::Parsing::call_at))]
+fn call<'t, 'a>(
+    alloc: Global,
+    name: Word,
+    tokens: &'t [Token<'a>],
+    depth: u8,
+) -> Result<(SyntaxTree, &'t [Token<'a>]), ParseFault>
+    ensures read { ReadsTree result (call_at (expr_at (atom_at depth)) name (plains tokens.now)) }
+    ensures places { IfOk result (KeepsPlaces (span_places tokens.now)) }
+    ensures shorter { IfOk result (λ x. length x.1.now ≤ length tokens.now) }
+{
+    let (first, rest) = chain(alloc, Op::Union, tokens, depth)?;
+    call_end(alloc, name, first, rest, depth)
+}
+
 #[cycle(expression)]
 #[tactic(auto, unfolding(crate::specs::Parsing::atom_at))]
 fn atom<'t, 'a>(
@@ -270,7 +384,8 @@ fn atom<'t, 'a>(
     }
 }
 
-/// An atom that may have one more pair of brackets or one more sign than so many.
+/// An atom that may have one more pair of brackets or one more sign than so many; the brackets of a
+/// call that takes an expression are one.
 #[cycle(expression)]
 #[tactic(auto, unfolding(crate::specs::Parsing::nested_at))]
 fn nested<'t, 'a>(
@@ -289,9 +404,12 @@ fn nested<'t, 'a>(
         }
         [Token::Exclamation, inner @ ..] => {
             let (whole, rest) = atom(alloc, inner, depth)?;
-            Ok((inverse(alloc, whole)?, rest))
+            Ok((unary(alloc, UnaryOp::Inverse, whole)?, rest))
         }
-        _ => leaf(alloc, tokens),
+        _ => match name(tokens) {
+            Some((name, inner)) => call(alloc, name, inner, depth),
+            None => leaf(alloc, tokens),
+        },
     }
 }
 
@@ -329,13 +447,14 @@ fn chain<'t, 'a>(
     let (mut left, mut rest) = operand(alloc, op, tokens, depth)?;
     'operands: while let Some(after) = behind(op, rest) {
         let (right, after) = operand(alloc, op, after, depth)?;
-        left = joined(alloc, op, left, right)?;
+        left = binary(alloc, BinaryOp::Infix(op), left, right)?;
         rest = after;
     }
     Ok((left, rest))
 }
 
-/// How deep round brackets and signs may nest.
+/// How deep round brackets and signs may nest, with the brackets of the calls that take an
+/// expression.
 pub const NESTING_LIMIT: u8 = 128;
 
 fn expression<'t, 'a>(

@@ -1,5 +1,5 @@
 ghost use Rattle.std.specs.Prelude.{◌≡◌, [], ◌∷◌, ◌++◌, IfOk};
-ghost use Rattle.expr_grammar.specs.Form.{Inverse, Joined, Span};
+ghost use Rattle.expr_grammar.specs.Form.{Binary, Span, Unary};
 ghost use Rattle.expr_grammar.specs.Syntax.{form_of, places_of};
 
 use moment_core::{Op, Stamp};
@@ -36,6 +36,30 @@ pub enum Field {
     Start(Option<Stamp>),
 }
 
+/// What makes an expression of one other.
+#[derive(Clone, Copy, Debug)]
+pub enum UnaryOp {
+    /// `!` before it.
+    Inverse,
+    /// `during(.., seconds)`
+    During(i64),
+    /// `starts(..)`
+    Starts,
+    /// `ends(..)`
+    Ends,
+    /// `shift(.., seconds)`
+    Shift(i64),
+}
+
+/// What makes an expression of two others.
+#[derive(Clone, Copy, Debug)]
+pub enum BinaryOp {
+    /// The operator between them.
+    Infix(Op),
+    /// `pairs(.., ..)`
+    Pairs,
+}
+
 /// An expression as it was written, with what its tokens held.
 #[derive(Debug)]
 pub enum SyntaxTree {
@@ -62,10 +86,10 @@ pub enum SyntaxTree {
         text: Vec<u8>,
         start: Option<Stamp>,
     },
-    /// Two expressions and the operator between them.
-    Joined(Op, Box<SyntaxTree>, Box<SyntaxTree>),
-    /// `!` before an expression.
-    Inverse(Box<SyntaxTree>),
+    /// What is made of one expression.
+    Unary(UnaryOp, Box<SyntaxTree>),
+    /// What is made of two.
+    Binary(BinaryOp, Box<SyntaxTree>, Box<SyntaxTree>),
 }
 
 // A loop, so that a long chain of operators doesn't run out of stack.
@@ -82,8 +106,8 @@ impl Drop for SyntaxTree {
                 } => return,
                 SyntaxTree::Rule { freq: _, fields: _ } => return,
                 SyntaxTree::Rrule { text: _, start: _ } => return,
-                SyntaxTree::Joined(_, left, _) => self = Box::into_inner(left),
-                SyntaxTree::Inverse(inner) => self = Box::into_inner(inner),
+                SyntaxTree::Unary(_, inner) => self = Box::into_inner(inner),
+                SyntaxTree::Binary(_, left, _) => self = Box::into_inner(left),
             }
         }
     }
@@ -104,25 +128,25 @@ pub(crate) fn spanned(place: usize, low: Option<SpanBound>, high: Option<SpanBou
     SyntaxTree::Span { place, low, high }
 }
 
-/// Two expressions joined by the operator.
-pub(crate) fn joined(
+/// What is made of one expression.
+pub(crate) fn unary(alloc: Global, op: UnaryOp, a: SyntaxTree) -> Result<SyntaxTree, AllocError>
+    ensures form { IfOk result (λ t. form_of t ≡ Unary op (form_of a)) }
+    ensures places { IfOk result (λ t. places_of t ≡ places_of a) }
+{
+    Ok(SyntaxTree::Unary(op, Box::new(alloc, a)?))
+}
+
+/// What is made of two expressions.
+pub(crate) fn binary(
     alloc: Global,
-    op: Op,
+    op: BinaryOp,
     a: SyntaxTree,
     b: SyntaxTree,
 ) -> Result<SyntaxTree, AllocError>
-    ensures form { IfOk result (λ t. form_of t ≡ Joined op (form_of a) (form_of b)) }
+    ensures form { IfOk result (λ t. form_of t ≡ Binary op (form_of a) (form_of b)) }
     ensures places { IfOk result (λ t. places_of t ≡ places_of a ++ places_of b) }
 {
     let a = Box::new(alloc, a)?;
     let b = Box::new(alloc, b)?;
-    Ok(SyntaxTree::Joined(op, a, b))
-}
-
-/// What isn't in the expression.
-pub(crate) fn inverse(alloc: Global, a: SyntaxTree) -> Result<SyntaxTree, AllocError>
-    ensures form { IfOk result (λ t. form_of t ≡ Inverse (form_of a)) }
-    ensures places { IfOk result (λ t. places_of t ≡ places_of a) }
-{
-    Ok(SyntaxTree::Inverse(Box::new(alloc, a)?))
+    Ok(SyntaxTree::Binary(op, a, b))
 }

@@ -1,5 +1,6 @@
 -- The printed form.
-use Rattle.std.specs.Prelude.{ℕ, Bool, true, false, ◌&&◌, List, [], ◌∷◌, ◌++◌, Option, Some, None, codes, if◌then◌else◌}
+use Rattle.std.specs.Prelude.{ℕ, ℤ, Bool, true, false, ◌&&◌, List, [], ◌∷◌, ◌++◌, Option, Some, None, codes, if◌then◌else◌}
+use Rattle.std.specs.Fmt.{signed_decimal}
 use Rattle.std.specs.List.{flat_map}
 use Rattle.moment_core.specs.Clocks.{is_absolute}
 use Rattle.moment_core.specs.declared.line.Clock.{Clock}
@@ -13,7 +14,7 @@ use Rattle.moment_core.specs.declared.joining.Op.TheVariants.{Union, Meet, Minus
 use Rattle.expr_print.specs.Fields.{field_rule_text}
 use Rattle.rrule_text.specs.Writing.{text_of}
 use Rattle.rule_core.specs.declared.ical.IcalRule.{IcalRule}
-use Rattle.expr_tree.specs.Tree.{Rule, Listed, Field, Ical, Tree, Empty, Spanned, Ruled, Joined, Not, Trees}
+use Rattle.expr_tree.specs.Tree.{Rule, Listed, Field, Ical, Tree, Empty, Spanned, Ruled, Joined, Not, During, Pairs, Starts, Ends, Shift, Trees}
 
 -- operands that are themselves joined by an operator stand in brackets
 abbrev pub is_join : Tree Rule → Bool
@@ -75,6 +76,14 @@ rule_text (Listed stamps) = codes "{" ++ stamps_text stamps ++ codes "}"
 rule_text (Field rule) = field_rule_text rule
 rule_text (Ical rule) = rrule_text rule
 
+-- what stands behind the one expression of a call that has seconds
+abbrev pub seconds_text : ℤ → List ℕ
+seconds_text seconds = codes ", " ++ signed_decimal seconds
+
+-- a call, by its name with the bracket, and what stands within
+abbrev pub call_text : List ℕ → List ℕ → List ℕ
+call_text opening within = opening ++ within ++ codes ")"
+
 unfoldable pub print : Tree Rule → List ℕ
 print Empty = codes "empty()"
 print (Spanned bounds low high) =
@@ -84,6 +93,11 @@ print (Ruled rule) = rule_text rule
 print (Joined op a b) =
     bracketed (is_join a) (print a) ++ sign_text op ++ bracketed (is_join b) (print b)
 print (Not a) = codes "!" ++ bracketed (is_join a) (print a)
+print (During a seconds) = call_text (codes "during(") (print a ++ seconds_text seconds)
+print (Pairs a b) = call_text (codes "pairs(") (print a ++ codes ", " ++ print b)
+print (Starts a) = call_text (codes "starts(") (print a)
+print (Ends a) = call_text (codes "ends(") (print a)
+print (Shift a seconds) = call_text (codes "shift(") (print a ++ seconds_text seconds)
 
 abbrev pub operand_text : Tree Rule → List ℕ
 operand_text t = bracketed (is_join t) (print t)

@@ -46,7 +46,7 @@ fn key_name(key: Key) -> &'static [u8]
     }
 }
 
-fn put_number(out: &mut Vec<u8>, n: i64) -> Result<(), AllocError>
+pub(crate) fn put_number(out: &mut Vec<u8>, n: i64) -> Result<(), AllocError>
     ensures { OnOk result (out.new.items ≡ out.old.items ++ signed_decimal n) }
 {
     out.extend_from_slice(Buffer::new().format(n).as_bytes())

@@ -1,15 +1,15 @@
-ghost use Rattle.std.specs.Prelude.{◌≡◌, ◌++◌, true, length, take, IfOk, OnOk};
+ghost use Rattle.std.specs.Prelude.{◌≡◌, ◌++◌, codes, true, length, take, IfOk, OnOk};
 ghost use Rattle.std.specs.List.{All, flat_map};
 ghost use Rattle.moment_core.specs.Line.{IsCalendarMoment};
 ghost use Rattle.expr_tree.specs.Tree.{tree_of, trees_of};
 ghost use Rattle.expr_tree.specs.WellFormed.{AreWellFormed, IsWellFormed};
 ghost use Rattle.span_core.specs.Bounds.{IsGiven};
-ghost use Rattle.expr_print.specs.Printing.{is_join, operand_text, stamp_text, next_stamp, stamps_text, low_text, high_text, moment_text, is_at_moment, comma_text, print, print_program, rrule_text};
+ghost use Rattle.expr_print.specs.Printing.{is_join, operand_text, stamp_text, next_stamp, stamps_text, low_text, high_text, moment_text, is_at_moment, comma_text, call_text, print, print_program, rrule_text, seconds_text, sign_text};
 ghost use Rattle.rule_core.specs.WrittenForm.{IsWritable};
 
-use crate::fields::put_rule;
+use crate::fields::{put_number, put_rule};
 use expr_tree::{Expr, Program};
-use moment_core::{Clock, Moment, Stamp};
+use moment_core::{Clock, Moment, Op, Stamp};
 use moment_text::write_literal;
 use rrule_text::write_rrule;
 use rule_core::IcalRule;
@@ -127,6 +127,17 @@ fn put_rrule(out: &mut Vec<u8>, rule: &IcalRule) -> Result<(), AllocError>
     out.extend_from_slice(b")")
 }
 
+/// The sign between two operands.
+fn sign(op: Op) -> &'static [u8]
+    ensures { result.now ≡ sign_text op }
+{
+    match op {
+        Op::Union => b" | ",
+        Op::Meet => b" & ",
+        Op::Minus => b" - ",
+    }
+}
+
 /// Puts the set, with each operand that an operator joins in brackets.
 #[cycle(putting)]
 #[tactic(auto, unfolding(crate::specs::Printing::print))]
@@ -150,26 +161,82 @@ fn put(out: &mut Vec<u8>, e: &Expr) -> Result<(), AllocError>
         }
         Expr::Field(rule) => put_rule(out, rule),
         Expr::Rrule(rule) => put_rrule(out, rule),
-        Expr::Union(a, b) => {
-            put_operand(out, a)?;
-            out.extend_from_slice(b" | ")?;
-            put_operand(out, b)
-        }
-        Expr::Meet(a, b) => {
-            put_operand(out, a)?;
-            out.extend_from_slice(b" & ")?;
-            put_operand(out, b)
-        }
-        Expr::Minus(a, b) => {
-            put_operand(out, a)?;
-            out.extend_from_slice(b" - ")?;
-            put_operand(out, b)
-        }
+        Expr::Union(a, b) => put_infix(out, Op::Union, a, b),
+        Expr::Meet(a, b) => put_infix(out, Op::Meet, a, b),
+        Expr::Minus(a, b) => put_infix(out, Op::Minus, a, b),
         Expr::Not(a) => {
             out.extend_from_slice(b"!")?;
             put_operand(out, a)
         }
+        Expr::During(a, seconds) => put_call_with(out, b"during(", a, *seconds),
+        Expr::Pairs(a, b) => put_pairs(out, a, b),
+        Expr::Starts(a) => put_call(out, b"starts(", a),
+        Expr::Ends(a) => put_call(out, b"ends(", a),
+        Expr::Shift(a, seconds) => put_call_with(out, b"shift(", a, *seconds),
     }
+}
+
+/// Puts two operands and the sign between them.
+#[cycle(putting)]
+fn put_infix(out: &mut Vec<u8>, op: Op, a: &Expr, b: &Expr) -> Result<(), AllocError>
+    requires first { IsWellFormed (tree_of a.now) }
+    requires second { IsWellFormed (tree_of b.now) }
+    ensures { OnOk result (out.new.items
+        ≡ out.old.items
+        ++ (operand_text (tree_of a.now) ++ sign_text op ++ operand_text (tree_of b.now))) }
+{
+    put_operand(out, a)?;
+    out.extend_from_slice(sign(op))?;
+    put_operand(out, b)
+}
+
+/// Puts a call of one set.
+#[cycle(putting)]
+fn put_call(out: &mut Vec<u8>, opening: &[u8], a: &Expr) -> Result<(), AllocError>
+    requires { IsWellFormed (tree_of a.now) }
+    ensures { OnOk result (out.new.items
+        ≡ out.old.items ++ call_text opening.now (print (tree_of a.now))) }
+{
+    out.extend_from_slice(opening)?;
+    put(out, a)?;
+    out.extend_from_slice(b")")
+}
+
+/// Puts a call of a set and seconds.
+#[cycle(putting)]
+fn put_call_with(
+    out: &mut Vec<u8>,
+    opening: &[u8],
+    a: &Expr,
+    seconds: i64,
+) -> Result<(), AllocError>
+    requires { IsWellFormed (tree_of a.now) }
+    ensures { OnOk result (out.new.items
+        ≡ out.old.items
+        ++ call_text opening.now (print (tree_of a.now) ++ seconds_text seconds)) }
+{
+    out.extend_from_slice(opening)?;
+    put(out, a)?;
+    out.extend_from_slice(b", ")?;
+    put_number(out, seconds)?;
+    out.extend_from_slice(b")")
+}
+
+/// Puts a call of two sets.
+#[cycle(putting)]
+fn put_pairs(out: &mut Vec<u8>, a: &Expr, b: &Expr) -> Result<(), AllocError>
+    requires first { IsWellFormed (tree_of a.now) }
+    requires second { IsWellFormed (tree_of b.now) }
+    ensures { OnOk result (out.new.items
+        ≡ out.old.items
+        ++ call_text (codes "pairs(")
+        (print (tree_of a.now) ++ codes ", " ++ print (tree_of b.now))) }
+{
+    out.extend_from_slice(b"pairs(")?;
+    put(out, a)?;
+    out.extend_from_slice(b", ")?;
+    put(out, b)?;
+    out.extend_from_slice(b")")
 }
 
 #[cycle(putting)]

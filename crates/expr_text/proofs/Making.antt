@@ -5,13 +5,14 @@ use Rattle.std.specs.Option.{option_or}
 use denote.Ref.{Bor}
 use Rattle.std.specs.List.{AllByRecursion}
 use Rattle.moment_core.proofs.Lists.{all_both}
-use Rattle.moment_core.specs.declared.joining.Op.{Op}
 use Rattle.expr_grammar.specs.Form.{Form}
 use Rattle.expr_grammar.specs.Form as forms
 use Rattle.expr_grammar.specs.Made.{IsDated, IsMade}
 use Rattle.expr_grammar.specs.Syntax.{all_places_of, form_of, forms_of, places_of, second_form, second_places}
+use Rattle.expr_grammar.specs.declared.syntax.BinaryOp.{BinaryOp}
 use Rattle.expr_grammar.specs.declared.syntax.SyntaxTree.{SyntaxTree}
 use Rattle.expr_grammar.specs.declared.syntax.SyntaxTrees.{SyntaxTrees}
+use Rattle.expr_grammar.specs.declared.syntax.UnaryOp.{UnaryOp}
 use Rattle.expr_tree.specs.declared.tree.Expr.{Expr}
 use Rattle.rrule_text.specs.Fault.{Fault as RruleFault, fault_in as fault_in_rrule}
 use Rattle.rrule_text.specs.declared.fault.RruleFault.TheVariants as rrules
@@ -32,25 +33,25 @@ size_of (forms.Listed literals) = 1
 size_of (forms.Span low high) = 1
 size_of (forms.Rule freq fields) = 1
 size_of (forms.Rrule text start) = 1
-size_of (forms.Joined op a b) = 1 + size_of a + size_of b
-size_of (forms.Inverse a) = 1 + size_of a
+size_of (forms.Unary op a) = 1 + size_of a
+size_of (forms.Binary op a b) = 1 + size_of a + size_of b
 
 -- one step more
 pub form_pushed : (path : List Step) (step : Step) (t : Form) → form_around (path ++ step ∷ []) t ≡ form_around path (form_around (step ∷ []) t)
 form_pushed [] step t = refl
-form_pushed (steps.Before op right ∷ path) step t = ap (λ (u : Form). forms.Joined op u (form_of right.now)) (form_pushed path step t)
-form_pushed (steps.Behind ∷ path) step t = ap (λ (u : Form). forms.Inverse u) (form_pushed path step t)
+form_pushed (steps.Inner op ∷ path) step t = ap (λ (u : Form). forms.Unary op u) (form_pushed path step t)
+form_pushed (steps.First op second ∷ path) step t = ap (λ (u : Form). forms.Binary op u (form_of second.now)) (form_pushed path step t)
 
 pub places_pushed : (path : List Step) (step : Step) (ps : List ℕ) → places_around (path ++ step ∷ []) ps ≡ places_around path (places_around (step ∷ []) ps)
 places_pushed [] step ps = refl
-places_pushed (steps.Before op right ∷ path) step ps = ap (λ (qs : List ℕ). qs ++ places_of right.now) (places_pushed path step ps)
-places_pushed (steps.Behind ∷ path) step ps = places_pushed path step ps
+places_pushed (steps.Inner op ∷ path) step ps = places_pushed path step ps
+places_pushed (steps.First op second ∷ path) step ps = ap (λ (qs : List ℕ). qs ++ places_of second.now) (places_pushed path step ps)
 
 -- a part and what stands around it
 part_made : (path : List Step) (t : Form) → IsMade IsDated (form_around path t) → IsMade IsDated t
 part_made [] t h = h
-part_made (steps.Before op right ∷ path) t h = part_made path t h.0
-part_made (steps.Behind ∷ path) t h = part_made path t h
+part_made (steps.Inner op ∷ path) t h = part_made path t h
+part_made (steps.First op second ∷ path) t h = part_made path t h.0
 
 in_sum : (n m k : ℕ) → n ≤ m → n ≤ 1 + m + k
 in_sum n m k h = omega arith
@@ -63,14 +64,14 @@ below_sum n k s h = omega arith
 
 part_within : (path : List Step) (t : Form) → size_of t ≤ size_of (form_around path t)
 part_within [] t = omega arith
-part_within (steps.Before op right ∷ path) t = in_sum (size_of t) (size_of (form_around path t)) (size_of (form_of right.now)) (part_within path t)
-part_within (steps.Behind ∷ path) t = in_next (size_of t) (size_of (form_around path t)) (part_within path t)
+part_within (steps.Inner op ∷ path) t = in_next (size_of t) (size_of (form_around path t)) (part_within path t)
+part_within (steps.First op second ∷ path) t = in_sum (size_of t) (size_of (form_around path t)) (size_of (form_of second.now)) (part_within path t)
 
 vacant_around : (path : List Step) (t : Form) (ps : List ℕ) (byte : ℕ) → FirstVacant (spans_of t) ps byte → FirstVacant (spans_of (form_around path t)) (places_around path ps) byte
 vacant_around [] t ps byte h = h
-vacant_around (steps.Before op right ∷ path) t ps byte h =
-    vacant_front (spans_of (form_around path t)) (spans_of (form_of right.now)) (places_around path ps) (places_of right.now) byte (vacant_around path t ps byte h)
-vacant_around (steps.Behind ∷ path) t ps byte h = vacant_around path t ps byte h
+vacant_around (steps.Inner op ∷ path) t ps byte h = vacant_around path t ps byte h
+vacant_around (steps.First op second ∷ path) t ps byte h =
+    vacant_front (spans_of (form_around path t)) (spans_of (form_of second.now)) (places_around path ps) (places_of second.now) byte (vacant_around path t ps byte h)
 
 -- a span without a position in a part is one of the whole
 pub vacant_part : (path : List Step) (t : Form) (ps : List ℕ) (o : Option Fault) → IfSome o (IsVacantAt t ps) → IfSome o (IsVacantAt (form_around path t) (places_around path ps))
@@ -94,52 +95,52 @@ reaches_left tree t ps made path e d held is = record {
   made_of = is;
 }
 
--- back to the operator behind a part, and to the sign before it
+-- back to what is made of a part, alone or with a second one
 module _ (t : Form) (ps : List ℕ) (made : Result Expr Unmade) (path : List Step) (h : Reaches t ps made path) where
-  module _ (front : List Step) (op : Op) (right : Bor SyntaxTree) (e : path ≡ front ++ steps.Before op right ∷ []) where
-    joined_whole : form_around front (forms.Joined op h.part (form_of right.now)) ≡ t
-    joined_whole = sym (form_pushed front (steps.Before op right) h.part) ∙ ap (λ (p : List Step). form_around p h.part) (sym e) ∙ h.whole
+  module _ (front : List Step) (op : BinaryOp) (second : Bor SyntaxTree) (e : path ≡ front ++ steps.First op second ∷ []) where
+    binary_whole : form_around front (forms.Binary op h.part (form_of second.now)) ≡ t
+    binary_whole = sym (form_pushed front (steps.First op second) h.part) ∙ ap (λ (p : List Step). form_around p h.part) (sym e) ∙ h.whole
 
-    joined_places : places_around front (h.part_places ++ places_of right.now) ≡ ps
-    joined_places = sym (places_pushed front (steps.Before op right) h.part_places) ∙ ap (λ (p : List Step). places_around p h.part_places) (sym e) ∙ h.whole_places
+    binary_places : places_around front (h.part_places ++ places_of second.now) ≡ ps
+    binary_places = sym (places_pushed front (steps.First op second) h.part_places) ∙ ap (λ (p : List Step). places_around p h.part_places) (sym e) ∙ h.whole_places
 
-    pub right_made : IsMade IsDated t → IsMade IsDated (form_of right.now)
-    right_made made_whole = (part_made front (forms.Joined op h.part (form_of right.now)) (rw (← joined_whole) at made_whole)).1
+    pub second_is_made : IsMade IsDated t → IsMade IsDated (form_of second.now)
+    second_is_made made_whole = (part_made front (forms.Binary op h.part (form_of second.now)) (rw (← binary_whole) at made_whole)).1
 
-    pub right_within : size_of (form_of right.now) < size_of t
-    right_within =
-        below_sum (size_of h.part) (size_of (form_of right.now)) (size_of t) (rw joined_whole at (part_within front (forms.Joined op h.part (form_of right.now))))
+    pub second_within : size_of (form_of second.now) < size_of t
+    second_within =
+        below_sum (size_of h.part) (size_of (form_of second.now)) (size_of t) (rw binary_whole at (part_within front (forms.Binary op h.part (form_of second.now))))
 
-    right_vacant : (o : Option Fault) → IfSome o (IsVacantAt (form_of right.now) (places_of right.now))
-        → IfSome o (IsVacantAt (forms.Joined op h.part (form_of right.now)) (h.part_places ++ places_of right.now))
-    right_vacant None k = tt
-    right_vacant (Some (faults.Moment byte)) k =
-        vacant_behind (spans_of h.part) (spans_of (form_of right.now)) h.part_places (places_of right.now) byte h.placed h.held k
-    right_vacant (Some fault) k = absurd k
+    vacant_second : (o : Option Fault) → IfSome o (IsVacantAt (form_of second.now) (places_of second.now))
+        → IfSome o (IsVacantAt (forms.Binary op h.part (form_of second.now)) (h.part_places ++ places_of second.now))
+    vacant_second None k = tt
+    vacant_second (Some (faults.Moment byte)) k =
+        vacant_behind (spans_of h.part) (spans_of (form_of second.now)) h.part_places (places_of second.now) byte h.placed h.held k
+    vacant_second (Some fault) k = absurd k
 
-    pub vacant_right : (o : Option Fault) → IfSome o (IsVacantAt (form_of right.now) (places_of right.now)) → IfSome o (IsVacantAt t ps)
-    vacant_right o k =
-        vacant_within front (forms.Joined op h.part (form_of right.now)) t (h.part_places ++ places_of right.now) ps o joined_whole joined_places (right_vacant o k)
+    pub second_vacant_in : (o : Option Fault) → IfSome o (IsVacantAt (form_of second.now) (places_of second.now)) → IfSome o (IsVacantAt t ps)
+    second_vacant_in o k =
+        vacant_within front (forms.Binary op h.part (form_of second.now)) t (h.part_places ++ places_of second.now) ps o binary_whole binary_places (vacant_second o k)
 
-    pub reaches_joined : (r joined : Result Expr Unmade) → Makes (form_of right.now) (places_of right.now) (Ok r)
-        → ((u v : Form) → IsMadeOf u made → IsMadeOf v r → IsMadeOf (forms.Joined op u v) joined) → Reaches t ps joined front
-    reaches_joined r joined k is = record {
-      part = forms.Joined op h.part (form_of right.now);
-      part_places = h.part_places ++ places_of right.now;
-      whole = joined_whole;
-      whole_places = joined_places;
-      placed = omega (arith, h.placed, placed_spans right.now, length-append h.part_places (places_of right.now), length-append (spans_of h.part) (spans_of (form_of right.now)));
-      held = all_both HasPosition (spans_of h.part) (spans_of (form_of right.now)) h.held k.0;
-      made_of = is h.part (form_of right.now) h.made_of k.1;
+    pub reaches_binary : (r both : Result Expr Unmade) → Makes (form_of second.now) (places_of second.now) (Ok r)
+        → ((u v : Form) → IsMadeOf u made → IsMadeOf v r → IsMadeOf (forms.Binary op u v) both) → Reaches t ps both front
+    reaches_binary r both k is = record {
+      part = forms.Binary op h.part (form_of second.now);
+      part_places = h.part_places ++ places_of second.now;
+      whole = binary_whole;
+      whole_places = binary_places;
+      placed = omega (arith, h.placed, placed_spans second.now, length-append h.part_places (places_of second.now), length-append (spans_of h.part) (spans_of (form_of second.now)));
+      held = all_both HasPosition (spans_of h.part) (spans_of (form_of second.now)) h.held k.0;
+      made_of = is h.part (form_of second.now) h.made_of k.1;
     }
 
-  pub reaches_inverse : (front : List Step) → path ≡ front ++ steps.Behind ∷ [] → (inverse : Result Expr Unmade)
-      → ((u : Form) → IsMadeOf u made → IsMadeOf (forms.Inverse u) inverse) → Reaches t ps inverse front
-  reaches_inverse front e inverse is = record {
-    part = forms.Inverse h.part;
+  pub reaches_unary : (front : List Step) (op : UnaryOp) → path ≡ front ++ steps.Inner op ∷ [] → (whole : Result Expr Unmade)
+      → ((u : Form) → IsMadeOf u made → IsMadeOf (forms.Unary op u) whole) → Reaches t ps whole front
+  reaches_unary front op e whole is = record {
+    part = forms.Unary op h.part;
     part_places = h.part_places;
-    whole = sym (form_pushed front steps.Behind h.part) ∙ ap (λ (p : List Step). form_around p h.part) (sym e) ∙ h.whole;
-    whole_places = sym (places_pushed front steps.Behind h.part_places) ∙ ap (λ (p : List Step). places_around p h.part_places) (sym e) ∙ h.whole_places;
+    whole = sym (form_pushed front (steps.Inner op) h.part) ∙ ap (λ (p : List Step). form_around p h.part) (sym e) ∙ h.whole;
+    whole_places = sym (places_pushed front (steps.Inner op) h.part_places) ∙ ap (λ (p : List Step). places_around p h.part_places) (sym e) ∙ h.whole_places;
     placed = h.placed;
     held = h.held;
     made_of = is h.part h.made_of;

@@ -10,14 +10,18 @@ use Rattle.expr_tokens.specs.declared.token.Token.{Token as Placed}
 use Rattle.expr_tokens.specs.declared.token.Token.TheVariants as placed
 use Rattle.expr_tokens.specs.Plain.{Token, plains}
 use Rattle.expr_tokens.specs.Plain as tokens
+use Rattle.expr_grammar.specs.declared.syntax.BinaryOp.{BinaryOp}
+use Rattle.expr_grammar.specs.declared.syntax.BinaryOp.TheVariants as binaries
 use Rattle.expr_grammar.specs.declared.syntax.SpanBound.{SpanBound}
+use Rattle.expr_grammar.specs.declared.syntax.UnaryOp.{UnaryOp}
+use Rattle.expr_grammar.specs.declared.syntax.UnaryOp.TheVariants as unaries
 use Rattle.expr_grammar.specs.Form.{Form, Forms}
 use Rattle.expr_grammar.specs.Form as forms
 use Rattle.expr_grammar.specs.Grammar.{Spells}
 use Rattle.expr_grammar.specs.Laws.{MomentsAreKept}
 use Rattle.expr_grammar.specs.Made.{HasMoment, BoundHas, IsDated, IsMade, AreMade}
 use Rattle.moment_core.proofs.Lists.{all_front, all_behind}
-use Rattle.expr_tree.specs.Tree.{Rule, Field, Ical, Tree, Empty, Spanned, Ruled, Joined, Not, Trees}
+use Rattle.expr_tree.specs.Tree.{Rule, Field, Ical, Tree, Empty, Spanned, Ruled, Trees}
 use Rattle.expr_tree.specs.WellFormed.{AreWellFormed, HasClock, IsWellFormed}
 use Rattle.rule_core.specs.FieldChecks.{check_of}
 use Rattle.rule_core.specs.declared.ical.IcalRule.{IcalRule}
@@ -30,7 +34,7 @@ use Rattle.expr_text.proofs.Started.{checked, neither, started}
 use Rattle.expr_text.specs.Faults.{HasPosition, Tokens, all_spans_of, first_nameless, is_nameless, kinds_of, first_rrule_fault, first_rule_fault, rrule_fault, rule_fault, second_rrule_fault, second_rule_fault, second_spans, spans_of}
 use Rattle.expr_text.specs.Phases.{AreBoth, HasSpans, IsInRange, IsSecond}
 use Rattle.expr_text.specs.Phases.{first_nameless as nameless_in}
-use Rattle.expr_text.specs.Trees.{both, bound_at, bound_of, clock_at, clock_of, is_named, is_some, listed, stamps_of, tree_from, trees_from}
+use Rattle.expr_text.specs.Trees.{binary_tree, both, bound_at, bound_of, clock_at, clock_of, is_named, is_some, listed, stamps_of, tree_from, trees_from, unary_tree}
 
 dated_token : (t : Token) → IsInRange t → is_nameless t ≡ false → HasMoment IsDated t
 dated_token (tokens.Moment None) h named = absurd cc
@@ -91,9 +95,9 @@ has_spans (forms.Listed ms) h held = tt
 has_spans (forms.Span low high) h held = record { low_given = given low h.0; high_given = given high h.1; some = held.0 }
 has_spans (forms.Rule freq fields) h held = tt
 has_spans (forms.Rrule text start) h held = tt
-has_spans (forms.Joined op a b) h held =
+has_spans (forms.Unary op a) h held = has_spans a h held
+has_spans (forms.Binary op a b) h held =
     (has_spans a h.0 (all_front HasPosition (spans_of a) (spans_of b) held), has_spans b h.1 (all_behind HasPosition (spans_of a) (spans_of b) held))
-has_spans (forms.Inverse a) h held = has_spans a h held
 
 second_spans_held : (o : Option Form) → IsSecond (IsMade IsDated) o → AllByRecursion HasPosition (second_spans o) → IsSecond HasSpans o
 second_spans_held None h held = tt
@@ -152,6 +156,17 @@ pub record AllStand (p : Forms) : Type 0 where
   pub are : trees_from p ≡ Some trees
   pub well_formed : AreWellFormed trees
 
+unary_formed : (op : UnaryOp) (a : Tree Rule) → IsWellFormed a → IsWellFormed (unary_tree op a)
+unary_formed unaries.Inverse a h = h
+unary_formed (unaries.During seconds) a h = h
+unary_formed unaries.Starts a h = h
+unary_formed unaries.Ends a h = h
+unary_formed (unaries.Shift seconds) a h = h
+
+binary_formed : (op : BinaryOp) (a b : Tree Rule) → IsWellFormed a → IsWellFormed b → IsWellFormed (binary_tree op a b)
+binary_formed (binaries.Infix op) a b h k = (h, k)
+binary_formed binaries.Pairs a b h k = (h, k)
+
 -- no rule has a fault
 pub record HasRules (t : Form) : Type 0 where
   pub fields : rule_fault t ≡ None
@@ -192,15 +207,15 @@ module _ (writable : RulesAreWritable) where
       }
   stands (forms.Rrule text None) h spans rules = absurd h
   stands (forms.Rrule text (Some s)) h spans rules = text_stands text s h rules.texts
-  stands (forms.Joined op a b) h spans rules =
+  stands (forms.Unary op a) h spans rules =
+      let x = stands a h spans (record { fields = rules.fields; texts = rules.texts }) in
+      record { tree = unary_tree op x.tree; is = rw x.is refl; well_formed = unary_formed op x.tree x.well_formed }
+  stands (forms.Binary op a b) h spans rules =
       let fields = neither (rule_fault a) (rule_fault b) rules.fields in
       let texts = neither (rrule_fault a) (rrule_fault b) rules.texts in
       let x = stands a h.0 spans.0 (record { fields = fields.0; texts = texts.0 }) in
       let y = stands b h.1 spans.1 (record { fields = fields.1; texts = texts.1 }) in
-      record { tree = Joined op x.tree y.tree; is = rw (x.is, y.is) refl; well_formed = (x.well_formed, y.well_formed) }
-  stands (forms.Inverse a) h spans rules =
-      let x = stands a h spans (record { fields = rules.fields; texts = rules.texts }) in
-      record { tree = Not x.tree; is = rw x.is refl; well_formed = x.well_formed }
+      record { tree = binary_tree op x.tree y.tree; is = rw (x.is, y.is) refl; well_formed = binary_formed op x.tree y.tree x.well_formed y.well_formed }
 
   with_second : (t : Form) (o : Option Form) → Stands t → IsSecond (IsMade IsDated) o → IsSecond HasSpans o
       → second_rule_fault o ≡ None → second_rrule_fault o ≡ None → AllStand (record { first = t; second = o })

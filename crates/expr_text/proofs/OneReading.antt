@@ -108,8 +108,8 @@ spans_counted (forms.Listed ms) = refl
 spans_counted (forms.Span low high) = refl
 spans_counted (forms.Rule freq fields) = refl
 spans_counted (forms.Rrule text start) = refl
-spans_counted (forms.Joined op a b) = omega (arith, length-append (spans_of a) (spans_of b), spans_counted a, spans_counted b)
-spans_counted (forms.Inverse a) = spans_counted a
+spans_counted (forms.Unary op a) = spans_counted a
+spans_counted (forms.Binary op a b) = omega (arith, length-append (spans_of a) (spans_of b), spans_counted a, spans_counted b)
 
 second_counted : (o : Option Form) → length (second_spans o) ≡ second_in o
 second_counted None = refl

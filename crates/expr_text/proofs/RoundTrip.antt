@@ -1,6 +1,7 @@
 -- The printed form is read back as its trees.
-use Rattle.std.proofs.Common.{◌≡◌, ℕ, ℤ, ◌≤◌, Bool, true, false, ◌&&◌, cond, List, [], ◌∷◌, ◌++◌, length, Option, Some, None, Ok, refl, sym, ap, subst, ◌∙◌, append_assoc, arith}
+use Rattle.std.proofs.Common.{◌≡◌, ℕ, ℤ, ◌<◌, ◌≤◌, ◌^◌, unsigned_abs, Bool, true, false, ◌&&◌, cond, List, [], ◌∷◌, ◌++◌, length, Option, Some, None, Ok, refl, sym, ap, subst, ◌∙◌, append_assoc, arith}
 use Rattle.std.specs.Prelude.{codes, option_map}
+use Rattle.std.specs.Fmt.{signed_decimal}
 use Rattle.std.specs.List.{AllByRecursion, flat_map, list_all}
 use Rattle.std.proofs.lemmas.Bool.{and_from, and_parts}
 use Rattle.std.proofs.lemmas.Bool.Decides.{nat_tests}
@@ -48,17 +49,18 @@ use Rattle.expr_text.proofs.RuleText.{rule_lexes}
 use Rattle.expr_grammar.specs.Nesting.{bounds_tokens, high_word, in_brackets, is_joined, low_word, more_tokens, spelled, spelled_program, spelled_second}
 use Rattle.moment_core.proofs.Lists.{all_both}
 use Rattle.expr_grammar.specs.Laws.{PrintedIsSpelled}
-use Rattle.expr_tree.specs.Tree.{Rule, Listed, Field, Ical, Tree, Empty, Spanned, Ruled, Joined, Not, Trees}
+use Rattle.expr_tree.specs.Sorts.{reach_of}
+use Rattle.expr_tree.specs.Tree.{Rule, Listed, Field, Ical, Tree, Empty, Spanned, Ruled, Joined, Not, During, Pairs, Starts, Ends, Shift, Trees}
 use Rattle.expr_text.specs.Accepted.{AreRead, IsRead, held, sorted, spelled as spelled_so}
 use Rattle.expr_text.specs.declared.fault.TheConstants.{LONGEST}
 use Rattle.phases.specs.Phases.{goes_on}
 use Rattle.expr_text.specs.Calls.{calls_unbuilt, names_unbuilt}
 use Rattle.expr_text.specs.Faults.{HasPosition, Tokens, first_nameless, first_rrule_fault, first_rule_fault, is_nameless, kinds_of, rrule_fault, rule_fault, second_rrule_fault, second_rule_fault, second_spans, sort_fault, spans_of}
-use Rattle.expr_print.specs.Printing.{bracketed, comma_text, high_text, is_at_moment, is_join, low_text, moment_text, next_stamp, print, print_program, print_second, rrule_text, sign_text, stamp_text}
+use Rattle.expr_print.specs.Printing.{bracketed, call_text, comma_text, high_text, is_at_moment, is_join, low_text, moment_text, next_stamp, print, print_program, print_second, rrule_text, seconds_text, sign_text, stamp_text}
 use Rattle.expr_text.specs.Trees.{bound_of}
 use Rattle.expr_text.proofs.Places.{short_text, stand_in}
 use Rattle.expr_text.specs.Laws.{HasShortSecond, HasShortStrings}
-use Rattle.expr_text.proofs.Written.{AreShown, IsShown, IsShownSecond, all_printable, all_shown, all_written, bound_back, joined_same, literals_of, stamp_at, trees_back, written, written_bound}
+use Rattle.expr_text.proofs.Written.{AreModest, AreShown, IsModestSecond, IsShown, IsShownSecond, all_modest, all_printable, all_shown, all_written, bound_back, first_shown, joined_same, literals_of, other_shown, stamp_at, trees_back, written, written_bound}
 
 along : (a b : List ℕ) (ts : List Token) (rest : List ℕ) → a ≡ b → Lexes b ts rest → Lexes a ts rest
 along a b ts rest e h = subst (λ (x : List ℕ). Lexes x ts rest) (sym e) h
@@ -141,6 +143,13 @@ plain_bounds Edge Edge low high = tt
 plain_joined : (op : Op) (b c : Bool) (ts us : List Token) → ArePlain ts → ArePlain us → ArePlain (in_brackets b ts ++ tokens.Operator op ∷ in_brackets c us)
 plain_joined op b c ts us h k = all_both IsPlain (in_brackets b ts) (tokens.Operator op ∷ in_brackets c us) (plain_brackets b ts h) ((refl, refl), plain_brackets c us k)
 
+-- behind the bracket of a call
+plain_with_seconds : (seconds : ℤ) (ts : List Token) → ArePlain ts → ArePlain (ts ++ tokens.Comma ∷ tokens.Number seconds ∷ tokens.Close ∷ [])
+plain_with_seconds seconds ts h = all_both IsPlain ts (tokens.Comma ∷ tokens.Number seconds ∷ tokens.Close ∷ []) h ((refl, refl), ((refl, refl), ((refl, refl), tt)))
+
+plain_pairs : (ts us : List Token) → ArePlain ts → ArePlain us → ArePlain (ts ++ (tokens.Comma ∷ us ++ tokens.Close ∷ []))
+plain_pairs ts us h k = all_both IsPlain ts (tokens.Comma ∷ us ++ tokens.Close ∷ []) h ((refl, refl), all_both IsPlain us (tokens.Close ∷ []) k ((refl, refl), tt))
+
 plain_freq : (freq : Freq) → IsPlain (tokens.Word (freq_word freq))
 plain_freq freqs.Yearly = (refl, refl)
 plain_freq freqs.Monthly = (refl, refl)
@@ -201,10 +210,15 @@ no_fault : (t : Tree Rule) → IsShown t → rule_fault (written t) ≡ None
 no_fault Empty h = refl
 no_fault (Ruled (Listed stamps)) h = refl
 no_fault (Spanned bounds low high) h = refl
-no_fault (Ruled (Field rule)) h = rw (rule_back rule, h.0) refl
+no_fault (Ruled (Field rule)) h = rw (rule_back rule, h.0.0) refl
 no_fault (Ruled (Ical rule)) h = refl
-no_fault (Joined op a b) h = rw (no_fault a h.0, no_fault b h.1) refl
+no_fault (Joined op a b) h = rw (no_fault a (first_shown h), no_fault b (other_shown h)) refl
 no_fault (Not a) h = no_fault a h
+no_fault (During a seconds) h = no_fault a h
+no_fault (Pairs a b) h = rw (no_fault a (first_shown h), no_fault b (other_shown h)) refl
+no_fault (Starts a) h = no_fault a h
+no_fault (Ends a) h = no_fault a h
+no_fault (Shift a seconds) h = no_fault a h
 
 no_second_fault : (o : Option (Tree Rule)) → IsShownSecond o → second_rule_fault (option_map written o) ≡ None
 no_second_fault None h = refl
@@ -216,14 +230,19 @@ no_rule_fault p h = rw (no_fault p.first h.0, no_second_fault p.second h.1) refl
 plain_spelled : (t : Tree Rule) → IsShown t → ArePlain (spelled (written t))
 unfolding spelled
 plain_spelled Empty h = ((refl, refl), ((refl, refl), ((refl, refl), tt)))
-plain_spelled (Ruled (Listed [])) h = absurd (omega (arith, h.0))
+plain_spelled (Ruled (Listed [])) h = absurd (omega (arith, h.0.0))
 plain_spelled (Ruled (Listed (s ∷ ss))) h = ((refl, refl), ((refl, refl), plain_more ss))
 plain_spelled (Spanned bounds low high) h =
     ((refl, refl), ((refl, refl), all_both IsPlain (bounds_tokens (written_bound bounds.0 low) (written_bound bounds.1 high)) (tokens.Close ∷ []) (plain_bounds bounds.0 bounds.1 low high) ((refl, refl), tt)))
 plain_spelled (Ruled (Field rule)) h = plain_rule rule.freq (written_fields rule) (named_fields rule)
 plain_spelled (Ruled (Ical rule)) h = ((refl, refl), ((refl, refl), ((refl, refl), ((refl, refl), ((refl, refl), ((refl, refl), tt))))))
-plain_spelled (Joined op a b) h = plain_joined op (is_joined (written a)) (is_joined (written b)) (spelled (written a)) (spelled (written b)) (plain_spelled a h.0) (plain_spelled b h.1)
+plain_spelled (Joined op a b) h = plain_joined op (is_joined (written a)) (is_joined (written b)) (spelled (written a)) (spelled (written b)) (plain_spelled a (first_shown h)) (plain_spelled b (other_shown h))
 plain_spelled (Not a) h = ((refl, refl), plain_brackets (is_joined (written a)) (spelled (written a)) (plain_spelled a h))
+plain_spelled (During a seconds) h = ((refl, refl), ((refl, refl), plain_with_seconds seconds (spelled (written a)) (plain_spelled a h)))
+plain_spelled (Pairs a b) h = ((refl, refl), ((refl, refl), plain_pairs (spelled (written a)) (spelled (written b)) (plain_spelled a (first_shown h)) (plain_spelled b (other_shown h))))
+plain_spelled (Starts a) h = ((refl, refl), plain_brackets true (spelled (written a)) (plain_spelled a h))
+plain_spelled (Ends a) h = ((refl, refl), plain_brackets true (spelled (written a)) (plain_spelled a h))
+plain_spelled (Shift a seconds) h = ((refl, refl), ((refl, refl), plain_with_seconds seconds (spelled (written a)) (plain_spelled a h)))
 
 plain_second : (o : Option (Tree Rule)) → IsShownSecond o → ArePlain (spelled_second (option_map written o))
 plain_second None h = tt
@@ -242,12 +261,17 @@ spans_held : (t : Tree Rule) → IsShown t → AllByRecursion HasPosition (spans
 spans_held Empty h = tt
 spans_held (Ruled (Listed stamps)) h = tt
 spans_held (Spanned bounds low high) h =
-    let position : HasPosition (bound_of (written_bound bounds.0 low), bound_of (written_bound bounds.1 high)) = rw (bound_back bounds.0 low h.0.low_given, bound_back bounds.1 high h.0.high_given) h.0.some in
+    let position : HasPosition (bound_of (written_bound bounds.0 low), bound_of (written_bound bounds.1 high)) = rw (bound_back bounds.0 low h.0.0.low_given, bound_back bounds.1 high h.0.0.high_given) h.0.0.some in
     (position, tt)
 spans_held (Ruled (Field rule)) h = tt
 spans_held (Ruled (Ical rule)) h = tt
-spans_held (Joined op a b) h = all_both HasPosition (spans_of (written a)) (spans_of (written b)) (spans_held a h.0) (spans_held b h.1)
+spans_held (Joined op a b) h = all_both HasPosition (spans_of (written a)) (spans_of (written b)) (spans_held a (first_shown h)) (spans_held b (other_shown h))
 spans_held (Not a) h = spans_held a h
+spans_held (During a seconds) h = spans_held a h
+spans_held (Pairs a b) h = all_both HasPosition (spans_of (written a)) (spans_of (written b)) (spans_held a (first_shown h)) (spans_held b (other_shown h))
+spans_held (Starts a) h = spans_held a h
+spans_held (Ends a) h = spans_held a h
+spans_held (Shift a seconds) h = spans_held a h
 
 second_held : (o : Option (Tree Rule)) → IsShownSecond o → AllByRecursion HasPosition (second_spans (option_map written o))
 second_held None h = tt
@@ -269,8 +293,13 @@ no_text_fault back (Ruled (Listed stamps)) h = refl
 no_text_fault back (Spanned bounds low high) h = refl
 no_text_fault back (Ruled (Field rule)) h = refl
 no_text_fault back (Ruled (Ical rule)) h = ap fault_of (back rule h.0.0 h.0.1)
-no_text_fault back (Joined op a b) h = rw (no_text_fault back a h.0, no_text_fault back b h.1) refl
+no_text_fault back (Joined op a b) h = rw (no_text_fault back a (first_shown h), no_text_fault back b (other_shown h)) refl
 no_text_fault back (Not a) h = no_text_fault back a h
+no_text_fault back (During a seconds) h = no_text_fault back a h
+no_text_fault back (Pairs a b) h = rw (no_text_fault back a (first_shown h), no_text_fault back b (other_shown h)) refl
+no_text_fault back (Starts a) h = no_text_fault back a h
+no_text_fault back (Ends a) h = no_text_fault back a h
+no_text_fault back (Shift a seconds) h = no_text_fault back a h
 
 no_second_text_fault : WrittenIsRead → (o : Option (Tree Rule)) → IsShownSecond o → second_rrule_fault (option_map written o) ≡ None
 no_second_text_fault back None h = refl
@@ -416,28 +445,60 @@ module _ (program_spelled : PrintedIsSpelled) (writing : Writing) (fit : FieldVa
       three x (sign_text op) y (in_brackets (is_joined (written a)) (spelled (written a))) (tokens.Operator op ∷ []) (in_brackets (is_joined (written b)) (spelled (written b))) rest
       (operand_lexes a ((sign_text op ++ y) ++ rest) first) (sign_lexes op (y ++ rest)) (operand_lexes b rest second)
 
-  print_lexes : (t : Tree Rule) (rest : List ℕ) → IsShown t → Lexes (print t) (spelled (written t)) rest
+  -- a call, by what stands within its brackets
+  call_lexes : (w : Word) (within : List ℕ) (ts : List Token) (rest : List ℕ) → Lexes within ts (codes ")" ++ rest) → Lexes (call_text (name_of w ++ codes "(") within) (tokens.Word w ∷ tokens.Open ∷ ts ++ tokens.Close ∷ []) rest
+  call_lexes w within ts rest h =
+      three (name_of w ++ codes "(") within (codes ")") (tokens.Word w ∷ tokens.Open ∷ []) ts (tokens.Close ∷ []) rest (word_open w ((within ++ codes ")") ++ rest)) h (Lexes-close writing rest)
+
+  seconds_lexes : (w : Word) (a : Tree Rule) (seconds : ℤ) (rest : List ℕ) → ((r : List ℕ) → Lexes (print a) (spelled (written a)) r) → unsigned_abs seconds < 10 ^ 13
+      → Lexes (call_text (name_of w ++ codes "(") (print a ++ seconds_text seconds)) (tokens.Word w ∷ tokens.Open ∷ spelled (written a) ++ tokens.Comma ∷ tokens.Number seconds ∷ tokens.Close ∷ []) rest
+  seconds_lexes w a seconds rest first short =
+      let ts = spelled (written a) in
+      let us = tokens.Comma ∷ tokens.Number seconds ∷ [] in
+      let within : Lexes (print a ++ seconds_text seconds) (ts ++ us) (codes ")" ++ rest) =
+      writing.parts (print a) (seconds_text seconds) ts us (codes ")" ++ rest) (first (seconds_text seconds ++ (codes ")" ++ rest)))
+      (writing.parts (codes ", ") (signed_decimal seconds) (tokens.Comma ∷ []) (tokens.Number seconds ∷ []) (codes ")" ++ rest) (comma (signed_decimal seconds ++ (codes ")" ++ rest))) (writing.numbers seconds (codes ")" ++ rest) short refl)) in
+      spelled_as (call_text (name_of w ++ codes "(") (print a ++ seconds_text seconds)) (tokens.Word w ∷ tokens.Open ∷ (ts ++ us) ++ tokens.Close ∷ []) (tokens.Word w ∷ tokens.Open ∷ ts ++ tokens.Comma ∷ tokens.Number seconds ∷ tokens.Close ∷ []) rest
+      (ap (λ (x : List Token). tokens.Word w ∷ tokens.Open ∷ x) (sym (append_assoc ts us (tokens.Close ∷ [])))) (call_lexes w (print a ++ seconds_text seconds) (ts ++ us) rest within)
+
+  pairs_lexes : (a b : Tree Rule) (rest : List ℕ) → ((r : List ℕ) → Lexes (print a) (spelled (written a)) r) → ((r : List ℕ) → Lexes (print b) (spelled (written b)) r)
+      → Lexes (call_text (codes "pairs(") (print a ++ codes ", " ++ print b)) (tokens.Word words.Pairs ∷ tokens.Open ∷ spelled (written a) ++ (tokens.Comma ∷ spelled (written b) ++ tokens.Close ∷ [])) rest
+  pairs_lexes a b rest first second =
+      let ts = spelled (written a) in
+      let us = spelled (written b) in
+      let both = print a ++ codes ", " ++ print b in
+      let within : Lexes both (ts ++ tokens.Comma ∷ us) (codes ")" ++ rest) =
+      three (print a) (codes ", ") (print b) ts (tokens.Comma ∷ []) us (codes ")" ++ rest) (first ((codes ", " ++ print b) ++ (codes ")" ++ rest))) (comma (print b ++ (codes ")" ++ rest))) (second (codes ")" ++ rest)) in
+      spelled_as (call_text (codes "pairs(") both) (tokens.Word words.Pairs ∷ tokens.Open ∷ (ts ++ tokens.Comma ∷ us) ++ tokens.Close ∷ []) (tokens.Word words.Pairs ∷ tokens.Open ∷ ts ++ (tokens.Comma ∷ us ++ tokens.Close ∷ [])) rest
+      (ap (λ (x : List Token). tokens.Word words.Pairs ∷ tokens.Open ∷ x) (sym (append_assoc ts (tokens.Comma ∷ us) (tokens.Close ∷ [])))) (call_lexes words.Pairs both (ts ++ tokens.Comma ∷ us) rest within)
+
+  print_lexes : (t : Tree Rule) (rest : List ℕ) → IsShown t → reach_of t < 10 ^ 13 → Lexes (print t) (spelled (written t)) rest
   unfolding print spelled
-  print_lexes Empty rest h = empty_call rest
-  print_lexes (Ruled (Listed [])) rest h = absurd (omega (arith, h.0))
-  print_lexes (Ruled (Listed (s ∷ ss))) rest h = list_lexes s ss rest (recursion_from_All (λ (x : Stamp). IsCalendarMoment x.moment.0) (s ∷ ss) h.1)
-  print_lexes (Spanned bounds low high) rest h = span_lexes bounds.0 bounds.1 low high rest h.0.low_given h.0.high_given
-  print_lexes (Ruled (Field rule)) rest h = rule_lexes writing fit intervals rule rest h.0 h.1
-  print_lexes (Ruled (Ical rule)) rest h = rrule_lexes rule rest h.0 h.1
-  print_lexes (Joined op a b) rest h = joined_lexes op a b rest (λ r. print_lexes a r h.0) (λ r. print_lexes b r h.1)
-  print_lexes (Not a) rest h =
+  print_lexes Empty rest h near = empty_call rest
+  print_lexes (Ruled (Listed [])) rest h near = absurd (omega (arith, h.0.0))
+  print_lexes (Ruled (Listed (s ∷ ss))) rest h near = list_lexes s ss rest (recursion_from_All (λ (x : Stamp). IsCalendarMoment x.moment.0) (s ∷ ss) h.0.1)
+  print_lexes (Spanned bounds low high) rest h near = span_lexes bounds.0 bounds.1 low high rest h.0.0.low_given h.0.0.high_given
+  print_lexes (Ruled (Field rule)) rest h near = rule_lexes writing fit intervals rule rest h.0.0 h.0.1
+  print_lexes (Ruled (Ical rule)) rest h near = rrule_lexes rule rest h.0 h.1
+  print_lexes (Joined op a b) rest h near = joined_lexes op a b rest (λ r. print_lexes a r (first_shown h) (omega (arith, near))) (λ r. print_lexes b r (other_shown h) (omega (arith, near)))
+  print_lexes (Not a) rest h near =
       writing.parts (codes "!") (bracketed (is_join a) (print a)) (tokens.Exclamation ∷ []) (in_brackets (is_joined (written a)) (spelled (written a))) rest
-      (Lexes-exclamation writing (bracketed (is_join a) (print a) ++ rest)) (operand_lexes a rest (λ r. print_lexes a r h))
+      (Lexes-exclamation writing (bracketed (is_join a) (print a) ++ rest)) (operand_lexes a rest (λ r. print_lexes a r h near))
+  print_lexes (During a seconds) rest h near = seconds_lexes words.During a seconds rest (λ r. print_lexes a r h (omega (arith, near))) (omega (arith, near))
+  print_lexes (Pairs a b) rest h near = pairs_lexes a b rest (λ r. print_lexes a r (first_shown h) (omega (arith, near))) (λ r. print_lexes b r (other_shown h) (omega (arith, near)))
+  print_lexes (Starts a) rest h near = call_lexes words.Starts (print a) (spelled (written a)) rest (print_lexes a (codes ")" ++ rest) h (omega (arith, near)))
+  print_lexes (Ends a) rest h near = call_lexes words.Ends (print a) (spelled (written a)) rest (print_lexes a (codes ")" ++ rest) h (omega (arith, near)))
+  print_lexes (Shift a seconds) rest h near = seconds_lexes words.Shift a seconds rest (λ r. print_lexes a r h (omega (arith, near))) (omega (arith, near))
 
-  second_lexes : (o : Option (Tree Rule)) → IsShownSecond o → Lexes (print_second o) (spelled_second (option_map written o)) []
-  second_lexes None h = writing.nothing []
-  second_lexes (Some t) h =
-      writing.parts (codes " ; ") (print t) (tokens.Semicolon ∷ []) (spelled (written t)) [] (spaced 59 tokens.Semicolon (print t ++ []) (Lexes-semicolon writing (32 ∷ (print t ++ [])))) (print_lexes t [] h)
+  second_lexes : (o : Option (Tree Rule)) → IsShownSecond o → IsModestSecond o → Lexes (print_second o) (spelled_second (option_map written o)) []
+  second_lexes None h modest = writing.nothing []
+  second_lexes (Some t) h modest =
+      writing.parts (codes " ; ") (print t) (tokens.Semicolon ∷ []) (spelled (written t)) [] (spaced 59 tokens.Semicolon (print t ++ []) (Lexes-semicolon writing (32 ∷ (print t ++ [])))) (print_lexes t [] h modest.reach)
 
-  program_lexes : (p : Trees) → AreShown p → Lexes (print_program p) (spelled_program (all_written p)) []
-  program_lexes p h =
+  program_lexes : (p : Trees) → AreShown p → AreModest p → Lexes (print_program p) (spelled_program (all_written p)) []
+  program_lexes p h modest =
       writing.parts (print p.first) (print_second p.second) (spelled (written p.first)) (spelled_second (option_map written p.second)) []
-      (print_lexes p.first (print_second p.second ++ []) h.0) (second_lexes p.second h.1)
+      (print_lexes p.first (print_second p.second ++ []) h.0 modest.0.reach) (second_lexes p.second h.1 modest.1)
 
   trees_accepted : (p : Trees) → AreShown p → sort_fault p ≡ None → (ts : Tokens) → kinds_of ts ≡ spelled_program (all_written p)
       → AreRead ts (Ok p)
@@ -447,7 +508,7 @@ module _ (program_spelled : PrintedIsSpelled) (writing : Writing) (fit : FieldVa
       let built : calls_unbuilt (kinds_of ts) ≡ false = no_call (kinds_of ts) each in
       let named : first_nameless ts ≡ None = no_nameless ts each in
       goes_on ts (Ok p) (rw built refl)
-      (goes_on (record { tokens = ts; forms = all_written p }) (Ok p) (spelled_so (all_written p) (rw same (program_spelled (all_written p) (all_printable p h sort))))
+      (goes_on (record { tokens = ts; forms = all_written p }) (Ok p) (spelled_so (all_written p) (rw same (program_spelled (all_written p) (all_printable p h (all_modest p sort)))))
       (goes_on (record { tokens = ts; forms = all_written p }) (Ok p) (rw named refl)
       (goes_on (all_written p) (Ok p) (held (all_both HasPosition (spans_of (written p.first)) (second_spans (option_map written p.second)) (spans_held p.first h.0) (second_held p.second h.1)))
       (goes_on (all_written p) (Ok p) (rw (no_rule_fault p h) refl)
@@ -458,5 +519,5 @@ module _ (program_spelled : PrintedIsSpelled) (writing : Writing) (fit : FieldVa
   printed_is_read p formed strings sort short =
       let h = all_shown p formed strings in
       let text = print_program p in
-      let there = stand_in text (spelled_program (all_written p)) (writing.texts text (spelled_program (all_written p)) (program_lexes p h)) in
+      let there = stand_in text (spelled_program (all_written p)) (writing.texts text (spelled_program (all_written p)) (program_lexes p h (all_modest p sort))) in
       goes_on text (Ok p) (short_text text short) (goes_on there.tokens (Ok p) there.read (trees_accepted p h sort there.tokens there.same))

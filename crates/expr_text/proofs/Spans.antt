@@ -24,6 +24,6 @@ placed_spans (trees.List v) = refl
 placed_spans (trees.Span place low high) = refl
 placed_spans (trees.Rule freq v) = refl
 placed_spans (trees.Rrule v start) = refl
-placed_spans (trees.Joined' op x a y b) =
+placed_spans (trees.Unary' op x a) = placed_spans a
+placed_spans (trees.Binary' op x a y b) =
     omega (arith, length-append (places_of a) (places_of b), length-append (spans_of (form_of a)) (spans_of (form_of b)), placed_spans a, placed_spans b)
-placed_spans (trees.Inverse' x a) = placed_spans a

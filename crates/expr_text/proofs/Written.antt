@@ -1,20 +1,24 @@
 -- Trees as they are written.
-use Rattle.std.proofs.Common.{◌≡◌, ℕ, ◌≤◌, Bool, true, false, cond, List, [], ◌∷◌, map, Option, Some, None, Result, Ok, Err, refl, sym, ap, arith}
+use Rattle.std.proofs.Common.{◌≡◌, ℕ, ◌<◌, ◌≤◌, ◌^◌, pos, int_lt, Bool, true, false, not, ◌||◌, cond, List, [], ◌∷◌, map, Option, Some, None, Result, Ok, Err, refl, sym, ap, arith}
 use Rattle.std.specs.Prelude.{nat_lt, option_map}
 use Rattle.std.proofs.lemmas.Bool.Decides.{nat_tests}
+use Rattle.std.proofs.lemmas.Int.{ints}
 use Rattle.moment_core.specs.declared.line.Clock.{Clock}
 use Rattle.moment_core.specs.declared.line.Clock.TheVariants.{Any, Floating, Absolute}
 use Rattle.moment_core.specs.declared.line.Moment.{Moment}
 use Rattle.moment_core.specs.declared.line.Stamp.{Stamp}
+use Rattle.moment_core.specs.declared.line.TheConstants.{REACH}
 use Rattle.span_core.specs.Bounds.{IsGiven}
 use Rattle.span_core.specs.declared.bounds.Bound.{Bound}
 use Rattle.span_core.specs.declared.bounds.Bound.TheVariants.{Closed, Open, Inf, Edge}
+use Rattle.expr_grammar.specs.declared.syntax.BinaryOp.TheVariants as binaries
 use Rattle.expr_grammar.specs.declared.syntax.SpanBound.{SpanBound}
+use Rattle.expr_grammar.specs.declared.syntax.UnaryOp.TheVariants as unaries
 use Rattle.expr_grammar.specs.Form.{Form, Forms}
 use Rattle.expr_grammar.specs.Form as forms
-use Rattle.expr_grammar.specs.Nesting.{HasTokens, IsPrintable, IsPrintableForm, height, is_joined}
-use Rattle.expr_tree.specs.Sorts.{depth_of, judge, nodes_of, sort_of_tree, sort_with}
-use Rattle.expr_tree.specs.Tree.{Rule, Listed, Field, Ical, Tree, Empty, Spanned, Ruled, Joined, Not, Trees}
+use Rattle.expr_grammar.specs.Nesting.{HasTokens, IsPrintable, IsPrintableForm, IsPrintableSecond, height, is_joined}
+use Rattle.expr_tree.specs.Sorts.{depth_of, durations_last, judge, nodes_of, reach_of, reaches_badly, sort_of_tree, sort_with}
+use Rattle.expr_tree.specs.Tree.{Rule, Listed, Field, Ical, Tree, Empty, Spanned, Ruled, Joined, Not, During, Pairs, Starts, Ends, Shift, Trees}
 use Rattle.expr_tree.specs.WellFormed.{AreWellFormed, HasClock, IsWellFormed, IsWellFormedSecond}
 use Rattle.rule_core.specs.declared.field.FieldRule.{FieldRule}
 use Rattle.rule_core.specs.declared.ical.IcalRule.{IcalRule}
@@ -33,13 +37,7 @@ use Rattle.expr_text.specs.Trees.{both, bound_of, clock_of, is_named, listed, st
 
 -- a well-formed tree whose strings are short
 abbrev pub IsShown : Tree Rule → Type 0
-IsShown Empty = Unit {0}
-IsShown (Spanned bounds low high) = IsWellFormed (Spanned bounds low high)
-IsShown (Ruled (Listed stamps)) = IsWellFormed (Ruled (Listed stamps))
-IsShown (Ruled (Field rule)) = IsWellFormed (Ruled (Field rule))
-IsShown (Ruled (Ical rule)) = IsWellFormed (Ruled (Ical rule)) × HasShortStrings (Ruled (Ical rule))
-IsShown (Joined op a b) = IsShown a × IsShown b
-IsShown (Not a) = IsShown a
+IsShown t = IsWellFormed t × HasShortStrings t
 
 abbrev pub IsShownSecond : Option (Tree Rule) → Type 0
 IsShownSecond None = Unit {0}
@@ -48,21 +46,20 @@ IsShownSecond (Some t) = IsShown t
 abbrev pub AreShown : Trees → Type 0
 AreShown p = IsShown p.first × IsShownSecond p.second
 
-shown : (t : Tree Rule) → IsWellFormed t → HasShortStrings t → IsShown t
-shown Empty h short = tt
-shown (Spanned bounds low high) h short = h
-shown (Ruled (Listed stamps)) h short = h
-shown (Ruled (Field rule)) h short = h
-shown (Ruled (Ical rule)) h short = (h, short)
-shown (Joined op a b) h short = (shown a h.0 short.0, shown b h.1 short.1)
-shown (Not a) h short = shown a h short
-
 second_shown : (o : Option (Tree Rule)) → IsWellFormedSecond o → HasShortSecond o → IsShownSecond o
 second_shown None h short = tt
-second_shown (Some t) h short = shown t h short
+second_shown (Some t) h short = (h, short)
 
 pub all_shown : (p : Trees) → AreWellFormed p → HasShortStrings p.first × HasShortSecond p.second → AreShown p
-all_shown p h short = (shown p.first h.0 short.0, second_shown p.second h.1 short.1)
+all_shown p h short = ((h.0, short.0), second_shown p.second h.1 short.1)
+
+-- of two trees that are shown
+module _ {P Q R S : Type 0} (h : (P × Q) × (R × S)) where
+  pub first_shown : P × R
+  first_shown = (h.0.0, h.1.0)
+
+  pub other_shown : Q × S
+  other_shown = (h.0.1, h.1.1)
 
 abbrev pub stamp_at : Moment → Clock → Stamp
 stamp_at t clock = record { moment = t; absolute = is_absolute clock }
@@ -82,8 +79,13 @@ written (Ruled (Listed stamps)) = forms.Listed (literals_of stamps)
 written (Spanned bounds low high) = forms.Span (written_bound bounds.0 low) (written_bound bounds.1 high)
 written (Ruled (Field rule)) = forms.Rule rule.freq (written_fields rule)
 written (Ruled (Ical rule)) = forms.Rrule (text_of rule) (Some rule.start)
-written (Joined op a b) = forms.Joined op (written a) (written b)
-written (Not a) = forms.Inverse (written a)
+written (Joined op a b) = forms.Binary (binaries.Infix op) (written a) (written b)
+written (Not a) = forms.Unary unaries.Inverse (written a)
+written (During a seconds) = forms.Unary (unaries.During seconds) (written a)
+written (Pairs a b) = forms.Binary binaries.Pairs (written a) (written b)
+written (Starts a) = forms.Unary unaries.Starts (written a)
+written (Ends a) = forms.Unary unaries.Ends (written a)
+written (Shift a seconds) = forms.Unary (unaries.Shift seconds) (written a)
 
 abbrev pub all_written : Trees → Forms
 all_written p = record { first = written p.first; second = option_map written p.second }
@@ -127,11 +129,16 @@ module _ (back : WrittenIsRead) where
   pub tree_back : (t : Tree Rule) → IsShown t → tree_from (written t) ≡ Some t
   tree_back Empty h = refl
   tree_back (Ruled (Listed stamps)) h = ap (option_map listed) (stamps_back stamps)
-  tree_back (Spanned bounds low high) h = span_back bounds low high h.0.low_given h.0.high_given h.1 h.2
+  tree_back (Spanned bounds low high) h = span_back bounds low high h.0.0.low_given h.0.0.high_given h.0.1 h.0.2
   tree_back (Ruled (Field rule)) h = ap (option_map (λ (r : FieldRule). Ruled (Field r))) (rule_back rule)
   tree_back (Ruled (Ical rule)) h = ap (option_map (λ (r : IcalRule). Ruled (Ical r))) (rrule_back rule h.0)
-  tree_back (Joined op a b) h = rw (tree_back a h.0, tree_back b h.1) refl
+  tree_back (Joined op a b) h = rw (tree_back a (first_shown h), tree_back b (other_shown h)) refl
   tree_back (Not a) h = rw (tree_back a h) refl
+  tree_back (During a seconds) h = rw (tree_back a h) refl
+  tree_back (Pairs a b) h = rw (tree_back a (first_shown h), tree_back b (other_shown h)) refl
+  tree_back (Starts a) h = rw (tree_back a h) refl
+  tree_back (Ends a) h = rw (tree_back a h) refl
+  tree_back (Shift a seconds) h = rw (tree_back a h) refl
 
   both_back : (t : Tree Rule) (o : Option (Tree Rule)) → IsShown t → IsShownSecond o → trees_from (record { first = written t; second = option_map written o }) ≡ Some (record { first = t; second = o })
   both_back t None h k = rw (tree_back t h) refl
@@ -148,6 +155,11 @@ joined_same (Ruled (Field rule)) = refl
 joined_same (Ruled (Ical rule)) = refl
 joined_same (Joined op a b) = refl
 joined_same (Not a) = refl
+joined_same (During a seconds) = refl
+joined_same (Pairs a b) = refl
+joined_same (Starts a) = refl
+joined_same (Ends a) = refl
+joined_same (Shift a seconds) = refl
 
 height_same : (t : Tree Rule) → height (written t) ≡ depth_of t
 unfolding height
@@ -158,48 +170,83 @@ height_same (Ruled (Field rule)) = refl
 height_same (Ruled (Ical rule)) = refl
 height_same (Joined op a b) = rw (height_same a, height_same b) (omega arith)
 height_same (Not a) = rw (height_same a) (omega arith)
+height_same (During a seconds) = rw (height_same a) (omega arith)
+height_same (Pairs a b) = rw (height_same a, height_same b) (omega arith)
+height_same (Starts a) = rw (height_same a) (omega arith)
+height_same (Ends a) = rw (height_same a) (omega arith)
+height_same (Shift a seconds) = rw (height_same a) (omega arith)
 
 has_tokens : (t : Tree Rule) → IsShown t → HasTokens (written t)
 unfolding HasTokens
 has_tokens Empty h = tt
-has_tokens (Ruled (Listed [])) h = absurd (omega (arith, h.0))
+has_tokens (Ruled (Listed [])) h = absurd (omega (arith, h.0.0))
 has_tokens (Ruled (Listed (s ∷ ss))) h = tt
 has_tokens (Spanned bounds low high) h = tt
 has_tokens (Ruled (Field rule)) h = are_fields rule
 has_tokens (Ruled (Ical rule)) h = tt
-has_tokens (Joined op a b) h = (has_tokens a h.0, has_tokens b h.1)
+has_tokens (Joined op a b) h = (has_tokens a (first_shown h), has_tokens b (other_shown h))
 has_tokens (Not a) h = has_tokens a h
+has_tokens (During a seconds) h = has_tokens a h
+has_tokens (Pairs a b) h = (has_tokens a (first_shown h), has_tokens b (other_shown h))
+has_tokens (Starts a) h = has_tokens a h
+has_tokens (Ends a) h = has_tokens a h
+has_tokens (Shift a seconds) h = has_tokens a h
 
 not_below : (a b : ℕ) → nat_lt a b ≡ false → b ≤ a
 not_below a b e = grind (arith, nat_tests)
 
--- a tree with a sort is at most 128 deep
-sorted_depth : (t : Tree Rule) (s : Sort) → sort_of_tree t ≡ Ok s → depth_of t ≤ 128
-sorted_depth t s e =
-    let P : Bool → Type 0 = λ b. cond b (Err faults.Nodes) (cond (nat_lt 128 (depth_of t)) (Err faults.Depth) (sort_with t (judge t))) ≡ Ok s → depth_of t ≤ 128 in
-    let Q : Bool → Type 0 = λ b. nat_lt 128 (depth_of t) ≡ b → cond b (Err faults.Depth) (sort_with t (judge t)) ≡ Ok s → depth_of t ≤ 128 in
-    let inner : (b : Bool) → Q b = λ b. elim b as Q [ true ↦ λ is k. absurd cc | false ↦ λ is k. not_below 128 (depth_of t) is ] in
-    let go : (b : Bool) → P b = λ b. elim b as P [ true ↦ λ k. absurd cc | false ↦ λ k. inner (nat_lt 128 (depth_of t)) refl k ] in
-    go (nat_lt 1024 (nodes_of t)) e
+-- a tree with a sort: at most 128 deep, and with numbers of at most 13 digits
+pub record IsModest (t : Tree Rule) : Type 0 where
+  pub depth : depth_of t ≤ 128
+  pub reach : reach_of t < 10 ^ 13
 
-pub printable : (t : Tree Rule) (s : Sort) → IsShown t → sort_of_tree t ≡ Ok s → IsPrintableForm (written t)
-printable t s h e = (has_tokens t h, rw (height_same t) (sorted_depth t s e))
+abbrev pub IsModestSecond : Option (Tree Rule) → Type 0
+IsModestSecond None = Unit {0}
+IsModestSecond (Some t) = IsModest t
 
-first_sorted : (r : Result Sort SortFault) (o : Option (Result Sort SortFault)) → fault_of r o ≡ None → (s : Sort) × (r ≡ Ok s)
-first_sorted (Ok s) o e = (s, refl)
-first_sorted (Err fault) o e = absurd cc
+abbrev pub AreModest : Trees → Type 0
+AreModest p = IsModest p.first × IsModestSecond p.second
 
-second_sorted : (r x : Result Sort SortFault) → fault_of r (Some x) ≡ None → (s : Sort) × (x ≡ Ok s)
-second_sorted (Err fault) x e = absurd cc
-second_sorted (Ok s) (Err fault) e = absurd cc
-second_sorted (Ok s) (Ok other) e = (other, refl)
+otherwise : {A F : Type 0} (b : Bool) (f : F) (r : Result A F) (s : A) → cond b (Err f) r ≡ Ok s → (b ≡ false) × (r ≡ Ok s)
+otherwise true f r s e = absurd cc
+otherwise false f r s e = (refl, e)
 
-both_printable : (t : Tree Rule) (o : Option (Tree Rule)) → AreShown (record { first = t; second = o }) → sort_fault (record { first = t; second = o }) ≡ None → IsPrintable (all_written (record { first = t; second = o }))
-both_printable t None h e = let s = first_sorted (sort_of_tree t) None e in (printable t s.0 h.0 s.1, tt)
-both_printable t (Some u) h e =
-    let s = first_sorted (sort_of_tree t) (Some (sort_of_tree u)) e in
-    let other = second_sorted (sort_of_tree t) (sort_of_tree u) e in
-    (printable t s.0 h.0 s.1, printable u other.0 h.1 other.1)
+reaches_well : (t : Tree Rule) (r : _) (s : Sort) → sort_with t r ≡ Ok s → reaches_badly t ≡ false
+reaches_well t (Err fault) s e = absurd cc
+reaches_well t (Ok judged) s e = (otherwise (reaches_badly t) faults.Reach _ s e).0
 
-pub all_printable : (p : Trees) → AreShown p → sort_fault p ≡ None → IsPrintable (all_written p)
-all_printable p h e = both_printable p.first p.second h e
+not_far : (a : Bool) (n : ℕ) → (a || int_lt REACH (pos n)) ≡ false → n < 10 ^ 13
+not_far true n e = absurd cc
+not_far false n e = grind (arith, ints)
+
+modest : (t : Tree Rule) (s : Sort) → sort_of_tree t ≡ Ok s → IsModest t
+modest t s e =
+    let few = otherwise (nat_lt 1024 (nodes_of t)) faults.Nodes _ s e in
+    let low = otherwise (nat_lt 128 (depth_of t)) faults.Depth _ s few.1 in
+    record { depth = not_below 128 (depth_of t) low.0; reach = not_far (not (durations_last t)) (reach_of t) (reaches_well t (judge t) s low.1) }
+
+first_modest : (t : Tree Rule) (r : Result Sort SortFault) (o : Option (Result Sort SortFault)) → sort_of_tree t ≡ r → fault_of r o ≡ None → IsModest t
+first_modest t (Ok s) o is e = modest t s is
+first_modest t (Err fault) o is e = absurd cc
+
+other_modest : (u : Tree Rule) (r x : Result Sort SortFault) → sort_of_tree u ≡ x → fault_of r (Some x) ≡ None → IsModest u
+other_modest u (Err fault) x is e = absurd cc
+other_modest u (Ok s) (Err fault) is e = absurd cc
+other_modest u (Ok s) (Ok other) is e = modest u other is
+
+second_modest : (t : Tree Rule) (o : Option (Tree Rule)) → sort_fault (record { first = t; second = o }) ≡ None → IsModestSecond o
+second_modest t None e = tt
+second_modest t (Some u) e = other_modest u (sort_of_tree t) (sort_of_tree u) refl e
+
+pub all_modest : (p : Trees) → sort_fault p ≡ None → AreModest p
+all_modest p e = (first_modest p.first (sort_of_tree p.first) (option_map sort_of_tree p.second) refl e, second_modest p.first p.second e)
+
+printable : (t : Tree Rule) → IsShown t → IsModest t → IsPrintableForm (written t)
+printable t h modest = (has_tokens t h, rw (height_same t) modest.depth)
+
+second_printable : (o : Option (Tree Rule)) → IsShownSecond o → IsModestSecond o → IsPrintableSecond (option_map written o)
+second_printable None h modest = tt
+second_printable (Some t) h modest = printable t h modest
+
+pub all_printable : (p : Trees) → AreShown p → AreModest p → IsPrintable (all_written p)
+all_printable p h modest = (printable p.first h.0 modest.0, second_printable p.second h.1 modest.1)

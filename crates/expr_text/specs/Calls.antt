@@ -1,18 +1,13 @@
 -- Calls of the grammar that aren't built.
 use Rattle.std.specs.Prelude.{Bool, true, false, ◌&&◌, ◌||◌, List, [], ◌∷◌}
 use Rattle.expr_tokens.specs.declared.token.Word.{Word}
-use Rattle.expr_tokens.specs.declared.token.Word.TheVariants.{Event, During, Pairs, Starts, Ends, Shift, Zoned, ZonedFirst}
+use Rattle.expr_tokens.specs.declared.token.Word.TheVariants.{Event, Zoned, ZonedFirst}
 use Rattle.expr_tokens.specs.Plain.{Token}
 use Rattle.expr_tokens.specs.Plain as tokens
 
 -- the names of these calls
 abbrev pub is_unbuilt : Word → Bool
 is_unbuilt Event = true
-is_unbuilt During = true
-is_unbuilt Pairs = true
-is_unbuilt Starts = true
-is_unbuilt Ends = true
-is_unbuilt Shift = true
 is_unbuilt Zoned = true
 is_unbuilt ZonedFirst = true
 is_unbuilt w = false

@@ -53,8 +53,8 @@ spans_of (forms.Listed literals) = []
 spans_of (forms.Span low high) = (bound_of low, bound_of high) ∷ []
 spans_of (forms.Rule freq fields) = []
 spans_of (forms.Rrule text start) = []
-spans_of (forms.Joined op a b) = spans_of a ++ spans_of b
-spans_of (forms.Inverse a) = spans_of a
+spans_of (forms.Unary op a) = spans_of a
+spans_of (forms.Binary op a b) = spans_of a ++ spans_of b
 
 abbrev pub second_spans : Option Form → List (Bound × Bound)
 second_spans None = []
@@ -84,8 +84,8 @@ rule_fault (forms.Listed literals) = None
 rule_fault (forms.Span low high) = None
 rule_fault (forms.Rule freq fields) = fault_where_rule (rule_from freq fields)
 rule_fault (forms.Rrule text start) = None
-rule_fault (forms.Joined op a b) = option_or (rule_fault a) (rule_fault b)
-rule_fault (forms.Inverse a) = rule_fault a
+rule_fault (forms.Unary op a) = rule_fault a
+rule_fault (forms.Binary op a b) = option_or (rule_fault a) (rule_fault b)
 
 abbrev pub second_rule_fault : Option Form → Option RuleFault
 second_rule_fault None = None
@@ -101,8 +101,8 @@ rrule_fault (forms.Listed literals) = None
 rrule_fault (forms.Span low high) = None
 rrule_fault (forms.Rule freq fields) = None
 rrule_fault (forms.Rrule text start) = fault_of_text text start
-rrule_fault (forms.Joined op a b) = option_or (rrule_fault a) (rrule_fault b)
-rrule_fault (forms.Inverse a) = rrule_fault a
+rrule_fault (forms.Unary op a) = rrule_fault a
+rrule_fault (forms.Binary op a b) = option_or (rrule_fault a) (rrule_fault b)
 
 abbrev pub second_rrule_fault : Option Form → Option RruleFault
 second_rrule_fault None = None

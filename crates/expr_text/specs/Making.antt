@@ -52,15 +52,15 @@ Makes t places (Err fault) = IfSome (fault_in fault) (IsVacantAt t places)
 -- the expression that the steps lead out of, from the first step on, and the places of its spans
 abbrev pub form_around : List Step → Form → Form
 form_around [] t = t
-form_around (steps.Before op right ∷ others) t =
-    forms.Joined op (form_around others t) (form_of right.now)
-form_around (steps.Behind ∷ others) t = forms.Inverse (form_around others t)
+form_around (steps.Inner op ∷ others) t = forms.Unary op (form_around others t)
+form_around (steps.First op second ∷ others) t =
+    forms.Binary op (form_around others t) (form_of second.now)
 
 abbrev pub places_around : List Step → List ℕ → List ℕ
 places_around [] places = places
-places_around (steps.Before op right ∷ others) places =
-    places_around others places ++ places_of right.now
-places_around (steps.Behind ∷ others) places = places_around others places
+places_around (steps.Inner op ∷ others) places = places_around others places
+places_around (steps.First op second ∷ others) places =
+    places_around others places ++ places_of second.now
 
 -- the steps lead to some part of the expression, and what was made is made of it
 pub record Reaches (t : Form) (places : List ℕ) (made : Result Expr Unmade)

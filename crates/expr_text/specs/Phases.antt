@@ -58,8 +58,8 @@ HasSpans (forms.Listed literals) = Unit {0}
 HasSpans (forms.Span low high) = IsSpan (bound_of low) (bound_of high)
 HasSpans (forms.Rule freq fields) = Unit {0}
 HasSpans (forms.Rrule text start) = Unit {0}
-HasSpans (forms.Joined op a b) = HasSpans a × HasSpans b
-HasSpans (forms.Inverse a) = HasSpans a
+HasSpans (forms.Unary op a) = HasSpans a
+HasSpans (forms.Binary op a b) = HasSpans a × HasSpans b
 
 abbrev pub IsSecond : (Form → Type 0) → Option Form → Type 0
 IsSecond Is None = Unit {0}

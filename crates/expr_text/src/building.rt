@@ -1,18 +1,18 @@
 ghost use Rattle.std.specs.Prelude.{◌≡◌, ◌∷◌, [], map, IfErr, IfOk, Option, Some};
 ghost use Rattle.std.specs.List.{filter_map};
-ghost use Rattle.expr_grammar.specs.Form.{Form, Inverse, Joined as JoinedForm, Rrule as RruleForm, Rule as RuleForm, Span as SpanForm};
+ghost use Rattle.expr_grammar.specs.Form.{Form, Binary as BinaryForm, Rrule as RruleForm, Rule as RuleForm, Span as SpanForm, Unary as UnaryForm};
 ghost use Rattle.expr_grammar.specs.Made.{IsDated, IsMade};
 ghost use Rattle.expr_grammar.specs.Syntax.{all_places_of, field_form, form_of, forms_of, places_of};
 ghost use Rattle.expr_text.specs.Making.{AreBothMade, Begins, IsMadeOf, Makes, MakesAll};
 ghost use Rattle.expr_text.specs.Fault.{HasNoInnerMemory};
 ghost use Rattle.expr_text.specs.Phases.{AreBoth};
-ghost use Rattle.expr_text.specs.Trees.{bound_of, clock_of};
-ghost use Rattle.expr_tree.specs.Tree.{Joined as JoinedTree, tree_of};
+ghost use Rattle.expr_text.specs.Trees.{binary_tree, bound_of, clock_of, unary_tree};
+ghost use Rattle.expr_tree.specs.Tree.{tree_of};
 ghost use Rattle.moment_core.specs.declared.line.Stamp.{Stamp as TheStamp};
 
 use crate::fault::TextFault;
 use crate::rules::rule;
-use expr_grammar::{Field, SpanBound, SyntaxTree, SyntaxTrees};
+use expr_grammar::{BinaryOp, Field, SpanBound, SyntaxTree, SyntaxTrees, UnaryOp};
 use expr_tree::{Expr, Program, Stamps};
 use moment_core::{Clock, Op, Stamp};
 use rrule_text::{RruleFault, read_rrule};
@@ -35,10 +35,10 @@ type Made = Result<Expr, Unmade>;
 /// A step from an expression to its leftmost part.
 #[derive(Drop)]
 pub(crate) enum Step<'t> {
-    /// To what stands before the operator and the expression behind it.
-    Before(Op, &'t SyntaxTree),
-    /// To what stands behind a `!`.
-    Behind,
+    /// To the one expression that it is made of.
+    Inner(UnaryOp),
+    /// To the first of two, before the second.
+    First(BinaryOp, &'t SyntaxTree),
 }
 
 /// The bound that is written; one that isn't is infinite.
@@ -143,36 +143,52 @@ fn both(a: Made, b: Made) -> Result<(Expr, Expr), Unmade>
     }
 }
 
-fn join(alloc: Global, op: Op, a: Expr, b: Expr) -> Result<Expr, AllocError>
-    ensures { IfOk result (λ e. tree_of e ≡ JoinedTree op (tree_of a) (tree_of b)) }
+/// The set that is made of one.
+fn unary_set(alloc: Global, op: UnaryOp, a: Expr) -> Result<Expr, AllocError>
+    ensures { IfOk result (λ e. tree_of e ≡ unary_tree op (tree_of a)) }
+{
+    let a = Box::new(alloc, a)?;
+    Ok(match op {
+        UnaryOp::Inverse => Expr::Not(a),
+        UnaryOp::During(seconds) => Expr::During(a, seconds),
+        UnaryOp::Starts => Expr::Starts(a),
+        UnaryOp::Ends => Expr::Ends(a),
+        UnaryOp::Shift(seconds) => Expr::Shift(a, seconds),
+    })
+}
+
+/// The set that is made of two.
+fn binary_set(alloc: Global, op: BinaryOp, a: Expr, b: Expr) -> Result<Expr, AllocError>
+    ensures { IfOk result (λ e. tree_of e ≡ binary_tree op (tree_of a) (tree_of b)) }
 {
     let a = Box::new(alloc, a)?;
     let b = Box::new(alloc, b)?;
     Ok(match op {
-        Op::Union => Expr::Union(a, b),
-        Op::Meet => Expr::Meet(a, b),
-        Op::Minus => Expr::Minus(a, b),
+        BinaryOp::Infix(Op::Union) => Expr::Union(a, b),
+        BinaryOp::Infix(Op::Meet) => Expr::Meet(a, b),
+        BinaryOp::Infix(Op::Minus) => Expr::Minus(a, b),
+        BinaryOp::Pairs => Expr::Pairs(a, b),
     })
 }
 
-/// What the operator joins.
-fn joined(alloc: Global, op: Op, a: Made, b: Made) -> Result<Made, AllocError>
-    ensures { IfOk result (λ made.
-        (t u : Form) → IsMadeOf t a → IsMadeOf u b → IsMadeOf (JoinedForm op t u) made) }
-{
-    match both(a, b) {
-        Err(fault) => Ok(Err(fault)),
-        Ok((a, b)) => Ok(Ok(join(alloc, op, a, b)?)),
-    }
-}
-
-/// What a `!` stands before.
-fn inverse(alloc: Global, a: Made) -> Result<Made, AllocError>
-    ensures { IfOk result (λ made. (t : Form) → IsMadeOf t a → IsMadeOf (Inverse t) made) }
+/// What is made of one expression.
+fn unary(alloc: Global, op: UnaryOp, a: Made) -> Result<Made, AllocError>
+    ensures { IfOk result (λ made. (t : Form) → IsMadeOf t a → IsMadeOf (UnaryForm op t) made) }
 {
     match a {
         Err(fault) => Ok(Err(fault)),
-        Ok(a) => Ok(Ok(Expr::Not(Box::new(alloc, a)?))),
+        Ok(a) => Ok(Ok(unary_set(alloc, op, a)?)),
+    }
+}
+
+/// What is made of two expressions.
+fn binary(alloc: Global, op: BinaryOp, a: Made, b: Made) -> Result<Made, AllocError>
+    ensures { IfOk result (λ made.
+        (t u : Form) → IsMadeOf t a → IsMadeOf u b → IsMadeOf (BinaryForm op t u) made) }
+{
+    match both(a, b) {
+        Err(fault) => Ok(Err(fault)),
+        Ok((a, b)) => Ok(Ok(binary_set(alloc, op, a, b)?)),
     }
 }
 
@@ -197,12 +213,12 @@ fn leftmost<'t>(alloc: Global, tree: &'t SyntaxTree) -> Result<(Made, Vec<Step<'
             SyntaxTree::Rrule { text, start } => {
                 return Ok((recurrence(alloc, text, *start)?, steps));
             }
-            SyntaxTree::Joined(op, a, b) => {
-                steps.push(Step::Before(*op, b))?;
+            SyntaxTree::Binary(op, a, b) => {
+                steps.push(Step::First(*op, b))?;
                 left = a;
             }
-            SyntaxTree::Inverse(a) => {
-                steps.push(Step::Behind)?;
+            SyntaxTree::Unary(op, a) => {
+                steps.push(Step::Inner(*op))?;
                 left = a;
             }
         }
@@ -220,11 +236,11 @@ fn make(alloc: Global, tree: &SyntaxTree) -> Result<Made, TextFault>
     let (mut made, mut steps) = leftmost(alloc, tree)?;
     'steps: while let Some(step) = steps.pop() {
         match step {
-            Step::Before(op, right) => {
-                let right = make(alloc, right)?;
-                made = joined(alloc, op, made, right)?;
+            Step::First(op, second) => {
+                let second = make(alloc, second)?;
+                made = binary(alloc, op, made, second)?;
             }
-            Step::Behind => made = inverse(alloc, made)?,
+            Step::Inner(op) => made = unary(alloc, op, made)?,
         }
     }
     Ok(made)

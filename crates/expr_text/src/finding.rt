@@ -9,17 +9,7 @@ use expr_tokens::{Token, Word};
 fn is_unbuilt(word: Word) -> bool
     ensures { result ≡ is_unbuilt word }
 {
-    matches!(
-        word,
-        Word::Event
-            | Word::During
-            | Word::Pairs
-            | Word::Starts
-            | Word::Ends
-            | Word::Shift
-            | Word::Zoned
-            | Word::ZonedFirst
-    )
+    matches!(word, Word::Event | Word::Zoned | Word::ZonedFirst)
 }
 
 /// Whether the token is such a name.

@@ -67,6 +67,27 @@ fn texts_are_printed_in_one_form(rt: HostRuntime) {
 }
 
 #[test]
+fn calls_of_sets_are_printed_in_one_form(rt: HostRuntime) {
+    const ROWS: &[(&str, &str)] = &[
+        (
+            "during(daily( )|hourly(),0007200)&shift(span(), -5)",
+            "during(daily() | hourly(), 7200) & shift(span(), -5)",
+        ),
+        (
+            "!pairs( (daily()-hourly()) ,((daily( ))))",
+            "!pairs(daily() - hourly(), daily())",
+        ),
+        (
+            "starts((span()))-ends(starts(span())&daily())",
+            "starts(span()) - ends(starts(span()) & daily())",
+        ),
+    ];
+    for (text, printed) in ROWS {
+        is_printed(&rt, rt.alloc(), text, printed);
+    }
+}
+
+#[test]
 fn texts_are_refused_by_the_first_fault(rt: HostRuntime) {
     const ROWS: &[(&str, TextFault)] = &[
         ("", TextFault::Syntax),
@@ -98,6 +119,16 @@ fn texts_are_refused_by_the_first_fault(rt: HostRuntime) {
         (
             "{2024-01-01T00:00:00} ; {2024-01-01T00:00:00Z}",
             TextFault::Sort(SortFault::Clock),
+        ),
+        ("during(daily())", TextFault::Syntax),
+        ("starts(span(), 1)", TextFault::Syntax),
+        ("pairs(daily(), 1)", TextFault::Syntax),
+        ("shift(daily(), daily())", TextFault::Syntax),
+        ("during(span(), -5)", TextFault::Sort(SortFault::Kind)),
+        ("during(daily(), -5)", TextFault::Sort(SortFault::Reach)),
+        (
+            "shift(span(), 9999999999999)",
+            TextFault::Sort(SortFault::Reach),
         ),
     ];
     for (text, fault) in ROWS {
@@ -263,6 +294,8 @@ fn brackets_and_signs_nest_128_deep(rt: HostRuntime) -> Result<(), Fail> {
         (127, "!", "", None),
         (128, "!", "", Some(TextFault::Sort(SortFault::Depth))),
         (129, "!", "", Some(TextFault::Syntax)),
+        (128, "starts(", ")", Some(TextFault::Sort(SortFault::Depth))),
+        (129, "starts(", ")", Some(TextFault::Syntax)),
     ];
     for (depth, sign, close, fault) in ROWS {
         let text = nested(rt.alloc(), *depth, sign, close)?;

@@ -1,2 +1,4 @@
+pub mod Backwards
 pub mod KindLemmas
+pub mod Membership
 pub mod Sizes

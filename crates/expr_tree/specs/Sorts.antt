@@ -1,5 +1,5 @@
 -- The kind, the clock and the size of a tree, and the first fault that keeps it from having them.
-use Rattle.std.specs.Prelude.{ℕ, ◌+◌, max, nat_lt, List, [], ◌∷◌, Option, Some, None, Result, Ok, Err, if◌then◌else◌, pos, int_lt}
+use Rattle.std.specs.Prelude.{ℕ, ◌+◌, max, nat_lt, List, [], ◌∷◌, Bool, true, not, ◌&&◌, ◌||◌, Option, Some, None, Result, Ok, Err, if◌then◌else◌, pos, int_le, int_lt, unsigned_abs}
 use Rattle.moment_core.specs.Clocks.{clock_of_stamp, one_clock}
 use Rattle.moment_core.specs.declared.line.Clock.{Clock}
 use Rattle.moment_core.specs.declared.line.Clock.TheVariants.{Any, Floating}
@@ -7,7 +7,7 @@ use Rattle.moment_core.specs.declared.line.Stamp.{Stamp}
 use Rattle.moment_core.specs.declared.line.TheConstants.{REACH}
 use Rattle.moment_core.specs.declared.joining.Op.{Op}
 use Rattle.moment_core.specs.declared.joining.Op.TheVariants.{Union, Meet, Minus}
-use Rattle.expr_tree.specs.Tree.{Rule, Listed, Field, Ical, Tree, Empty, Spanned, Ruled, Joined, Not}
+use Rattle.expr_tree.specs.Tree.{Rule, Listed, Field, Ical, Tree, Empty, Spanned, Ruled, Joined, Not, During, Pairs, Starts, Ends, Shift}
 use Rattle.expr_tree.specs.declared.tree.Kind.{Kind}
 use Rattle.expr_tree.specs.declared.tree.Kind.TheVariants.{Moments, Spans}
 use Rattle.expr_tree.specs.declared.sorting.Judged.{Judged}
@@ -16,12 +16,17 @@ use Rattle.expr_tree.specs.declared.sorting.SortFault.{SortFault}
 use Rattle.expr_tree.specs.declared.sorting.SortFault.TheVariants as faults
 
 -- how many nodes a tree has, and the longest path from its root
-abbrev pub nodes_of : Tree Rule → ℕ
+abbrev pub nodes_of : {R : Type 0} → Tree R → ℕ
 nodes_of Empty = 1
 nodes_of (Spanned bounds low high) = 1
 nodes_of (Ruled rule) = 1
 nodes_of (Joined op a b) = 1 + nodes_of a + nodes_of b
 nodes_of (Not a) = 1 + nodes_of a
+nodes_of (During a seconds) = 1 + nodes_of a
+nodes_of (Pairs a b) = 1 + nodes_of a + nodes_of b
+nodes_of (Starts a) = 1 + nodes_of a
+nodes_of (Ends a) = 1 + nodes_of a
+nodes_of (Shift a seconds) = 1 + nodes_of a
 
 abbrev pub depth_of : Tree Rule → ℕ
 depth_of Empty = 1
@@ -29,14 +34,39 @@ depth_of (Spanned bounds low high) = 1
 depth_of (Ruled rule) = 1
 depth_of (Joined op a b) = 1 + max (depth_of a) (depth_of b)
 depth_of (Not a) = 1 + depth_of a
+depth_of (During a seconds) = 1 + depth_of a
+depth_of (Pairs a b) = 1 + max (depth_of a) (depth_of b)
+depth_of (Starts a) = 1 + depth_of a
+depth_of (Ends a) = 1 + depth_of a
+depth_of (Shift a seconds) = 1 + depth_of a
 
--- how far membership at a position looks from there, in seconds, along some path
+-- the greatest sum, along a path, of absolute shifts, of durations, and of 1 for each place where
+-- runs begin or end: how many seconds past the calendar range one may look for a position in it.
+-- Pairs look back no farther than to the range's beginning.
 abbrev pub reach_of : {R : Type 0} → Tree R → ℕ
 reach_of Empty = 0
 reach_of (Spanned bounds low high) = 0
 reach_of (Ruled rule) = 0
 reach_of (Joined op a b) = max (reach_of a) (reach_of b)
 reach_of (Not a) = reach_of a
+reach_of (During a seconds) = unsigned_abs seconds + reach_of a
+reach_of (Pairs a b) = max (reach_of a) (reach_of b)
+reach_of (Starts a) = 1 + reach_of a
+reach_of (Ends a) = 1 + reach_of a
+reach_of (Shift a seconds) = unsigned_abs seconds + reach_of a
+
+-- each duration is at least a second
+abbrev pub durations_last : Tree Rule → Bool
+durations_last Empty = true
+durations_last (Spanned bounds low high) = true
+durations_last (Ruled rule) = true
+durations_last (Joined op a b) = durations_last a && durations_last b
+durations_last (Not a) = durations_last a
+durations_last (During a seconds) = int_le (pos 1) seconds && durations_last a
+durations_last (Pairs a b) = durations_last a && durations_last b
+durations_last (Starts a) = durations_last a
+durations_last (Ends a) = durations_last a
+durations_last (Shift a seconds) = durations_last a
 
 -- the one clock of both, if there is one of the first
 abbrev pub one_clock_if : Option Clock → Clock → Option Clock
@@ -84,9 +114,25 @@ join_judged op (Err fault) b = Err fault
 join_judged op (Ok a) (Err fault) = Err fault
 join_judged op (Ok a) (Ok b) = with_clock (joined_kind op a.kind b.kind) (one_clock a.clock b.clock)
 
-abbrev pub invert_judged : Result Judged SortFault → Result Judged SortFault
-invert_judged (Err fault) = Err fault
-invert_judged (Ok a) = Ok (record { kind = Spans; clock = a.clock })
+-- the kind with the clock of a set, which has its fault
+abbrev pub as_kind : Kind → Result Judged SortFault → Result Judged SortFault
+as_kind kind (Err fault) = Err fault
+as_kind kind (Ok a) = Ok (record { kind = kind; clock = a.clock })
+
+-- spans are made of moments alone
+abbrev pub spans_of : Kind → Option Clock → Result Judged SortFault
+spans_of Moments clock = with_clock Spans clock
+spans_of Spans clock = Err faults.Kind
+
+abbrev pub during_judged : Result Judged SortFault → Result Judged SortFault
+during_judged (Err fault) = Err fault
+during_judged (Ok a) = spans_of a.kind (Some a.clock)
+
+abbrev pub pairs_judged : Result Judged SortFault → Result Judged SortFault
+    → Result Judged SortFault
+pairs_judged (Err fault) b = Err fault
+pairs_judged (Ok a) (Err fault) = Err fault
+pairs_judged (Ok a) (Ok b) = spans_of (either_kind a.kind b.kind) (one_clock a.clock b.clock)
 
 -- the kind and the clock of a tree, or the fault of the first node that has one: children first,
 -- left before right
@@ -97,7 +143,12 @@ judge (Spanned bounds low high) = with_clock Spans (one_clock low high)
 judge (Ruled (Field rule)) = Ok (record { kind = Moments; clock = clock_of_start rule.start })
 judge (Ruled (Ical rule)) = Ok (record { kind = Moments; clock = clock_of_stamp rule.start })
 judge (Joined op a b) = join_judged op (judge a) (judge b)
-judge (Not a) = invert_judged (judge a)
+judge (Not a) = as_kind Spans (judge a)
+judge (During a seconds) = during_judged (judge a)
+judge (Pairs a b) = pairs_judged (judge a) (judge b)
+judge (Starts a) = as_kind Moments (judge a)
+judge (Ends a) = as_kind Moments (judge a)
+judge (Shift a seconds) = judge a
 
 -- the most nodes that a tree with a sort has, and the most that a path from its root has
 abbrev pub node_limit : ℕ
@@ -106,16 +157,19 @@ node_limit = 1024
 abbrev pub path_limit : ℕ
 path_limit = 128
 
+-- a duration is too short, or some path looks too far
+abbrev pub reaches_badly : Tree Rule → Bool
+reaches_badly t = not (durations_last t) || int_lt REACH (pos (reach_of t))
+
 abbrev pub sort_with : Tree Rule → Result Judged SortFault → Result Sort SortFault
 sort_with t (Err fault) = Err fault
 sort_with t (Ok judged) =
-    if int_lt REACH (pos (reach_of t)) then Err faults.Reach
+    if reaches_badly t then Err faults.Reach
     else Ok (record {
       kind = judged.kind;
       clock = judged.clock;
       reach = pos (reach_of t);
-      depth =
-          depth_of t;
+      depth = depth_of t;
       nodes = nodes_of t;
     })
 

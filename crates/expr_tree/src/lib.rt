@@ -8,7 +8,7 @@ mod sorting;
 mod tests;
 mod tree;
 
-pub use laws::tree_laws;
+pub use laws::{member_laws, tree_laws};
 pub use lists::{Name, Stamps};
 pub use sorting::{NODE_LIMIT, PATH_LIMIT, Sort, SortFault, sort_of};
 pub use tree::{Expr, Kind, Program, Shown};

@@ -1,5 +1,5 @@
-ghost use Rattle.std.specs.Prelude.{◌≡◌, ◌<◌, ◌≤◌, ◌^◌, Some, None, Ok, nat_le, pos, if◌then◌else◌};
-ghost use Rattle.expr_tree.specs.Sorts.{both_kind, clock_of_stamps, clock_of_start, depth_of, either_kind, join_judged, joined_kind, judge, nodes_of, reach_of, sort_of_tree, with_clock};
+ghost use Rattle.std.specs.Prelude.{◌≡◌, ◌<◌, ◌≤◌, ◌^◌, ◌+◌, Some, None, Ok, nat_le, pos, int_lt, unsigned_abs, if◌then◌else◌};
+ghost use Rattle.expr_tree.specs.Sorts.{as_kind, both_kind, clock_of_stamps, clock_of_start, depth_of, either_kind, join_judged, joined_kind, judge, nodes_of, pairs_judged, reach_of, reaches_badly, sort_of_tree, spans_of, with_clock};
 ghost use Rattle.expr_tree.specs.Tree.{tree_of};
 
 use crate::tree::{Expr, Kind};
@@ -13,7 +13,7 @@ use thiserror::Error;
 pub struct Sort {
     pub kind: Kind,
     pub clock: Clock,
-    /// How many seconds from a position its membership may look.
+    /// How many seconds past the calendar range one may look for a position in it.
     pub reach: i64,
     /// The nodes of the longest path from the root.
     pub depth: u32,
@@ -34,7 +34,7 @@ pub enum SortFault {
     Kind,
     #[error("floating and absolute moments in one set")]
     Clock,
-    #[error("shifts and durations that reach too far")]
+    #[error("a duration below 1, or shifts and durations that reach too far")]
     Reach,
 }
 
@@ -52,22 +52,19 @@ struct Judged {
 }
 
 /// The sort of a set, or the first fault of this order: too many nodes; a path of too many; then
-/// the fault of the first node that has one, children first, left before right; then shifts and
-/// durations that reach too far.
+/// the fault of the first node that has one, children first, left before right; then a duration
+/// below 1, or shifts and durations that reach too far.
 pub fn sort_of(e: &Expr, _book: &Book) -> Result<Sort, SortFault>
     ensures { result ≡ sort_of_tree (tree_of e.now) }
 {
     let nodes = nodes_within(e, NODE_LIMIT).ok_or(SortFault::Nodes)?;
     let depth = depth_within(e, PATH_LIMIT).ok_or(SortFault::Depth)?;
     let judged = judge_tree(e)?;
-    let reach = reach(e);
-    if reach > REACH {
-        return Err(SortFault::Reach);
-    }
+    let reach = reach_within(e).ok_or(SortFault::Reach)?;
     Ok(Sort {
         kind: judged.kind,
         clock: judged.clock,
-        reach,
+        reach: reach as i64,
         depth,
         nodes,
     })
@@ -86,12 +83,14 @@ fn nodes_within(e: &Expr, limit: u32) -> Option<u32>
         Expr::Empty | Expr::List(_) | Expr::Span(_, _, _) | Expr::Field(_) | Expr::Rrule(_) => Some(
             1,
         ),
-        Expr::Union(a, b) | Expr::Meet(a, b) | Expr::Minus(a, b) => {
+        Expr::Union(a, b) | Expr::Meet(a, b) | Expr::Minus(a, b) | Expr::Pairs(a, b) => {
             let left = nodes_within(a, below)?;
             let right = nodes_within(b, below - left)?;
             Some(1 + left + right)
         }
-        Expr::Not(a) => Some(1 + nodes_within(a, below)?),
+        Expr::Not(a) | Expr::During(a, _) | Expr::Starts(a) | Expr::Ends(a) | Expr::Shift(a, _) => {
+            Some(1 + nodes_within(a, below)?)
+        }
     }
 }
 
@@ -108,24 +107,53 @@ fn depth_within(e: &Expr, limit: u32) -> Option<u32>
         Expr::Empty | Expr::List(_) | Expr::Span(_, _, _) | Expr::Field(_) | Expr::Rrule(_) => Some(
             1,
         ),
-        Expr::Union(a, b) | Expr::Meet(a, b) | Expr::Minus(a, b) => {
+        Expr::Union(a, b) | Expr::Meet(a, b) | Expr::Minus(a, b) | Expr::Pairs(a, b) => {
             let left = depth_within(a, below)?;
             let right = depth_within(b, below)?;
             Some(1 + max(left, right))
         }
-        Expr::Not(a) => Some(1 + depth_within(a, below)?),
+        Expr::Not(a) | Expr::During(a, _) | Expr::Starts(a) | Expr::Ends(a) | Expr::Shift(a, _) => {
+            Some(1 + depth_within(a, below)?)
+        }
     }
 }
 
-/// How many seconds from a position membership may look, along some path.
-fn reach(e: &Expr) -> i64
-    ensures { result ≡ pos (reach_of (tree_of e.now)) }
+/// How many seconds past the calendar range one may look, along some path; None where that is more
+/// than `REACH`, or a duration is below 1.
+fn reach_within(e: &Expr) -> Option<u64>
+    ensures { result ≡ (if reaches_badly (tree_of e.now) then None
+        else Some (reach_of (tree_of e.now))) }
 {
     match e {
-        Expr::Empty | Expr::List(_) | Expr::Span(_, _, _) | Expr::Field(_) | Expr::Rrule(_) => 0,
-        Expr::Union(a, b) | Expr::Meet(a, b) | Expr::Minus(a, b) => max(reach(a), reach(b)),
-        Expr::Not(a) => reach(a),
+        Expr::Empty | Expr::List(_) | Expr::Span(_, _, _) | Expr::Field(_) | Expr::Rrule(_) => Some(
+            0,
+        ),
+        Expr::Union(a, b) | Expr::Meet(a, b) | Expr::Minus(a, b) | Expr::Pairs(a, b) => {
+            let left = reach_within(a)?;
+            let right = reach_within(b)?;
+            Some(max(left, right))
+        }
+        Expr::Not(a) => reach_within(a),
+        Expr::During(a, seconds) => {
+            if *seconds < 1 {
+                return None;
+            }
+            farther(seconds.unsigned_abs(), reach_within(a)?)
+        }
+        Expr::Starts(a) | Expr::Ends(a) => farther(1, reach_within(a)?),
+        Expr::Shift(a, seconds) => farther(seconds.unsigned_abs(), reach_within(a)?),
     }
+}
+
+/// The sum, where it isn't above `REACH`.
+fn farther(seconds: u64, reach: u64) -> Option<u64>
+    requires seconds { seconds ≤ 2 ^ 63 }
+    requires reach { reach ≤ unsigned_abs REACH }
+    ensures { result ≡ (if int_lt REACH (pos (seconds + reach)) then None
+        else Some (seconds + reach)) }
+{
+    let sum = seconds + reach;
+    if sum > REACH as u64 { None } else { Some(sum) }
 }
 
 /// The kind and the clock of a set, or the fault of the first node that has one.
@@ -150,11 +178,43 @@ fn judge_tree(e: &Expr) -> Result<Judged, SortFault>
         Expr::Union(a, b) => join_judged(Op::Union, judge_tree(a)?, judge_tree(b)?),
         Expr::Meet(a, b) => join_judged(Op::Meet, judge_tree(a)?, judge_tree(b)?),
         Expr::Minus(a, b) => join_judged(Op::Minus, judge_tree(a)?, judge_tree(b)?),
-        Expr::Not(a) => Ok(Judged {
-            kind: Kind::Spans,
-            clock: judge_tree(a)?.clock,
-        }),
+        Expr::Not(a) => Ok(as_kind(Kind::Spans, judge_tree(a)?)),
+        Expr::During(a, _) => {
+            let inner = judge_tree(a)?;
+            spans_of(inner.kind, Some(inner.clock))
+        }
+        Expr::Pairs(a, b) => pairs_judged(judge_tree(a)?, judge_tree(b)?),
+        Expr::Starts(a) => Ok(as_kind(Kind::Moments, judge_tree(a)?)),
+        Expr::Ends(a) => Ok(as_kind(Kind::Moments, judge_tree(a)?)),
+        Expr::Shift(a, _) => judge_tree(a),
     }
+}
+
+/// The kind with the clock of a set.
+fn as_kind(kind: Kind, a: Judged) -> Judged
+    ensures { Ok result ≡ as_kind kind (Ok a) }
+{
+    Judged {
+        kind,
+        clock: a.clock,
+    }
+}
+
+/// Spans with the clock, which are made of a set of the kind: of moments alone.
+fn spans_of(kind: Kind, clock: Option<Clock>) -> Result<Judged, SortFault>
+    ensures { result ≡ spans_of kind clock }
+{
+    match kind {
+        Kind::Moments => with_clock(Kind::Spans, clock),
+        Kind::Spans => Err(SortFault::Kind),
+    }
+}
+
+/// The kind and the clock of spans from moments of one set up to moments of another.
+fn pairs_judged(a: Judged, b: Judged) -> Result<Judged, SortFault>
+    ensures { result ≡ pairs_judged (Ok a) (Ok b) }
+{
+    spans_of(either_kind(a.kind, b.kind), a.clock.common(b.clock))
 }
 
 /// The kind and the clock of what joins two sets.

@@ -1,5 +1,5 @@
 use crate::{Expr, Kind, Sort, SortFault, Stamps, sort_of};
-use moment_core::{Clock, Moment, Stamp};
+use moment_core::{Clock, Moment, REACH, Stamp};
 use span_core::{Bound, Span};
 use std::alloc::{AllocError, Global};
 use std::test::Fail;
@@ -52,6 +52,27 @@ fn minus(alloc: Global, a: Expr, b: Expr) -> Result<Expr, AllocError> {
 
 fn inverse(alloc: Global, a: Expr) -> Result<Expr, AllocError> {
     Ok(Expr::Not(Box::new(alloc, a)?))
+}
+
+fn during(alloc: Global, a: Expr, seconds: i64) -> Result<Expr, AllocError> {
+    Ok(Expr::During(Box::new(alloc, a)?, seconds))
+}
+
+fn pairs(alloc: Global, a: Expr, b: Expr) -> Result<Expr, AllocError> {
+    let left = Box::new(alloc, a)?;
+    Ok(Expr::Pairs(left, Box::new(alloc, b)?))
+}
+
+fn starts(alloc: Global, a: Expr) -> Result<Expr, AllocError> {
+    Ok(Expr::Starts(Box::new(alloc, a)?))
+}
+
+fn ends(alloc: Global, a: Expr) -> Result<Expr, AllocError> {
+    Ok(Expr::Ends(Box::new(alloc, a)?))
+}
+
+fn shift(alloc: Global, a: Expr, seconds: i64) -> Result<Expr, AllocError> {
+    Ok(Expr::Shift(Box::new(alloc, a)?, seconds))
 }
 
 /// The inverse of no position, taken so many times.
@@ -142,6 +163,55 @@ fn differences_have_the_kind_of_the_first_and_inverses_have_spans(
     assert_eq!(rt; kind(spans, &book), Ok((Kind::Spans, Clock::Floating)));
     let others = inverse(alloc, absolute(alloc)?)?;
     assert_eq!(rt; kind(others, &book), Ok((Kind::Spans, Clock::Absolute)));
+    Ok(())
+}
+
+#[test]
+fn spans_are_made_of_moments_alone(rt: HostRuntime) -> Result<(), Fail> {
+    let alloc = rt.alloc();
+    let book = Book::empty(alloc);
+    let hours = during(alloc, floating(alloc)?, 3600)?;
+    assert_eq!(rt; kind(hours, &book), Ok((Kind::Spans, Clock::Floating)));
+    let work = pairs(alloc, absolute(alloc)?, Expr::Empty)?;
+    assert_eq!(rt; kind(work, &book), Ok((Kind::Spans, Clock::Absolute)));
+    assert_eq!(rt;
+        kind(during(alloc, open()?, 60)?, &book),
+        Err(SortFault::Kind)
+    );
+    let closed = pairs(alloc, absolute(alloc)?, open()?)?;
+    assert_eq!(rt; kind(closed, &book), Err(SortFault::Kind));
+    let clocks = pairs(alloc, floating(alloc)?, absolute(alloc)?)?;
+    assert_eq!(rt; kind(clocks, &book), Err(SortFault::Clock));
+    Ok(())
+}
+
+#[test]
+fn starts_and_ends_are_moments_and_shifts_keep_the_kind(rt: HostRuntime) -> Result<(), Fail> {
+    let alloc = rt.alloc();
+    let book = Book::empty(alloc);
+    let begun = starts(alloc, open()?)?;
+    assert_eq!(rt; kind(begun, &book), Ok((Kind::Moments, Clock::Floating)));
+    let ended = ends(alloc, open()?)?;
+    assert_eq!(rt; kind(ended, &book), Ok((Kind::Moments, Clock::Floating)));
+    let later = shift(alloc, open()?, 60)?;
+    assert_eq!(rt; kind(later, &book), Ok((Kind::Spans, Clock::Floating)));
+    Ok(())
+}
+
+#[test]
+fn durations_and_shifts_reach_no_farther_than_they_may(rt: HostRuntime) -> Result<(), Fail> {
+    let alloc = rt.alloc();
+    let book = Book::empty(alloc);
+    let far = shift(
+        alloc,
+        during(alloc, starts(alloc, Expr::Empty)?, 60)?,
+        61 - REACH,
+    )?;
+    assert_eq!(rt; sort(far, &book).map(|sort| sort.reach), Ok(REACH));
+    let past = shift(alloc, ends(alloc, Expr::Empty)?, REACH)?;
+    assert_eq!(rt; sort(past, &book), Err(SortFault::Reach));
+    let short = during(alloc, Expr::Empty, 0)?;
+    assert_eq!(rt; sort(short, &book), Err(SortFault::Reach));
     Ok(())
 }
 

@@ -39,6 +39,17 @@ pub enum Expr {
     Minus(Box<Expr>, Box<Expr>),
     /// The positions that the set doesn't have.
     Not(Box<Expr>),
+    /// From each moment of the set the positions of so many seconds: `2t <= p < 2(t + seconds)`.
+    During(Box<Expr>, i64),
+    /// From each moment of the first set, but for those below the calendar range, the positions up
+    /// to the next later moment of the second.
+    Pairs(Box<Expr>, Box<Expr>),
+    /// The moments at which the runs of the set begin, closed or open.
+    Starts(Box<Expr>),
+    /// The moments at which they end, closed or open.
+    Ends(Box<Expr>),
+    /// The positions of the set, so many seconds later.
+    Shift(Box<Expr>, i64),
 }
 
 // A loop, so that a long chain of operators doesn't run out of stack.
@@ -55,6 +66,11 @@ impl Drop for Expr {
                 Expr::Meet(left, _) => self = Box::into_inner(left),
                 Expr::Minus(left, _) => self = Box::into_inner(left),
                 Expr::Not(inner) => self = Box::into_inner(inner),
+                Expr::During(inner, _) => self = Box::into_inner(inner),
+                Expr::Pairs(left, _) => self = Box::into_inner(left),
+                Expr::Starts(inner) => self = Box::into_inner(inner),
+                Expr::Ends(inner) => self = Box::into_inner(inner),
+                Expr::Shift(inner, _) => self = Box::into_inner(inner),
             }
         }
     }

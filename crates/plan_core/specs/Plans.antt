@@ -9,9 +9,9 @@ use Rattle.frame_core.specs.Frames.{window_if_framed}
 use Rattle.stored_pair.specs.Meanings.{Meaning}
 use Rattle.expr_tree.specs.Members.{is_member}
 use Rattle.expr_tree.specs.Tree.{Tree}
-use Rattle.cert_audit.specs.Due.{IsDue}
+use Rattle.search_core.specs.Due.{IsDue}
 use Rattle.cert_audit.specs.Lowered.{meant_of_ready}
-use Rattle.cert_audit.specs.TreeFrames.{frame_of_tree}
+use Rattle.search_core.specs.TreeFrames.{frame_of_tree}
 use Rattle.plan_core.specs.declared.plan.Plan.{Plan}
 
 -- the window after which a tree's positions repeat from a position in a direction, if there is one

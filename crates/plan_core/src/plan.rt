@@ -3,9 +3,9 @@ ghost use Rattle.moment_core.specs.Line.{IsCalendarPosition};
 ghost use Rattle.expr_tree.specs.Tree.{meant_of, tree_of};
 ghost use Rattle.stored_pair.specs.Names.{entries_of};
 ghost use Rattle.cert_audit.specs.Lowered.{CanBeReady, meant_of_ready};
-ghost use Rattle.cert_audit.specs.Searches.{test_of};
 ghost use Rattle.cert_audit.specs.Settling.{AreSettled, IsFaultOf};
-ghost use Rattle.plan_core.specs.Plans.{AnswersFor, meant_of_plan, members_of_plan};
+ghost use Rattle.search_core.specs.Due.{IsTestOf};
+ghost use Rattle.plan_core.specs.Plans.{AnswersFor, meant_of_plan};
 
 use cert_audit::{PlanFault, Ready, sweep};
 use expr_tree::Expr;
@@ -36,11 +36,12 @@ impl<'b> Plan<'b> {
         Ok(Plan { ready })
     }
 
-    /// Whether the position is a member. `Budget` never comes, since no node looks back yet.
+    /// Whether the position is a member. `Budget` comes only where a node had to look back from the
+    /// position, with at least `budget` candidates and no member on the way.
     pub fn test<L: Ledger>(&mut self, p: Pos, budget: u64, steps: &mut Steps<L>) -> Test
         requires range { IsCalendarPosition p.0 }
         requires budget { 1 ≤ budget }
-        ensures value { result ≡ test_of (members_of_plan self.old p.0) }
+        ensures value { IsTestOf (meant_of_plan self.old) p.0 budget result }
         ensures same { meant_of_plan self.new ≡ meant_of_plan self.old }
         ensures counted { steps.old ≤ steps.new }
     {
@@ -49,9 +50,10 @@ impl<'b> Plan<'b> {
 
     /// Looks for the nearest position past `p`, in the direction, whose membership differs.
     ///
-    /// `At`, `None` and `Edge` are the answer. `Budget` comes only where nothing differs from `p`
-    /// up to the stop, which is not past the search's end, and at least `budget` candidates lie
-    /// between.
+    /// `At`, `None` and `Edge` are the answer. `Budget` with node 0 comes only where nothing
+    /// differs from `p` up to the stop, which is not past the search's end, and at least `budget`
+    /// candidates lie between. With another node it comes only where that one had to look back from
+    /// a place of the search, with as many candidates and no member on the way.
     pub fn change<L: Ledger>(
         &mut self,
         p: Pos,

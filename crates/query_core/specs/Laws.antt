@@ -10,9 +10,9 @@ use Rattle.stored_pair.specs.Meanings.{Meaning}
 use Rattle.expr_tree.specs.Members.{is_member}
 use Rattle.expr_tree.specs.Sorts.{reach_of}
 use Rattle.expr_tree.specs.Tree.{Tree}
-use Rattle.cert_audit.specs.Ample.{IsAboveSearch, IsAmple}
-use Rattle.cert_audit.specs.Due.{IsDue}
-use Rattle.cert_audit.specs.Lawful.{AreLawful}
+use Rattle.search_core.specs.Ample.{IsAboveSearch, IsAmple}
+use Rattle.search_core.specs.Due.{IsDue}
+use Rattle.search_core.specs.Lawful.{AreLawful}
 use Rattle.plan_core.specs.Plans.{window_of}
 use Rattle.run_search.specs.Places.{IsAmpleAt}
 use Rattle.query_core.specs.Answering.{PlacesOfClosest, PlacesOfCurrent, PlacesOfNext}

@@ -1,8 +1,8 @@
 ghost use Rattle.query_core.specs.Laws.{AmpleFindsNeighbours, EnoughFindsNeighbours, NeighboursAreInRange, NeighboursAreUnique, NeighboursExist, NeighboursHoldForEver};
 
-use cert_audit::ample_laws;
 use frame_core::window_laws;
 use run_search::{ample_place_laws, run_laws};
+use search_core::ample_laws;
 use span_core::answer_laws;
 
 /// At each moment of the calendar range each query has an answer, and no second one.

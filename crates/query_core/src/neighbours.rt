@@ -2,7 +2,7 @@ ghost use Rattle.std.specs.Prelude.{◌≡◌, ◌≤◌, false, IfErr, IfOk};
 ghost use Rattle.moment_core.specs.Line.{IsCalendarMoment, position_of};
 ghost use Rattle.moment_core.specs.declared.line.Dir.TheVariants.{Back, Fore};
 ghost use Rattle.span_core.specs.Answers.{IsCalendarNear};
-ghost use Rattle.cert_audit.specs.Searches.{test_of};
+ghost use Rattle.search_core.specs.Due.{IsTestOf};
 ghost use Rattle.plan_core.specs.Plans.{due_of_plan, meant_of_plan, members_of_plan, window_of_plan};
 ghost use Rattle.run_search.specs.Places.{IsAmpleAt, IsStopAt};
 ghost use Rattle.query_core.specs.Answering.{AnswersOrStops, IsAnswered, PlacesBeside, PlacesOfClosest, PlacesOfCurrent, PlacesOfNext, told};
@@ -105,11 +105,12 @@ pub fn closest<L: Ledger>(plan: &mut Plan, at: Moment, budget: u64, steps: &mut 
     told(closest_at(plan, at, budget, steps))
 }
 
-/// Whether the moment is a member. `Budget` never comes, since no set looks back yet.
+/// Whether the moment is a member. `Budget` comes only where a node had to look back from the
+/// moment, with at least `budget` candidates and no member on the way.
 pub fn contains<L: Ledger>(plan: &mut Plan, at: Moment, budget: u64, steps: &mut Steps<L>) -> Test
     requires range { IsCalendarMoment at.0 }
     requires budget { 1 ≤ budget }
-    ensures value { result ≡ test_of (members_of_plan plan.old (position_of at.0)) }
+    ensures value { IsTestOf (meant_of_plan plan.old) (position_of at.0) budget result }
     ensures same { meant_of_plan plan.new ≡ meant_of_plan plan.old }
     ensures counted { steps.old ≤ steps.new }
 {

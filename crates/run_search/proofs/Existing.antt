@@ -24,17 +24,31 @@ one_before-on Fore x = omega (arith, ints)
 one_before-on Back x = omega (arith, ints)
 
 -- the run of a member
-run_of_member : (set : ℤ → Bool) (dir : Dir) (p end : ℤ) (a : Answer) → IsCalendarPosition p → IsCalendarPosition end → IsUpTo dir end p → set p ≡ true → IsFound set None dir p a → (far : ℤ) × IsFirstRun set dir p end p far
-run_of_member set dir p end (answers.At x) here there within m f = elim (before_or_past dir x.0 end) [
-  | inl past ↦ (one_before dir x.0, ends_at_change set dir p x.0 end (one_before dir x.0) m f.0 past (one_before-on dir x.0))
-  | inr before ↦ (end, ends_with_end set dir p end m within (same_if_change_past set dir p x.0 end f.0 (λ near. not_both_ways dir x.0 end near before)))
-]
-run_of_member set dir p end (answers.None w) here there within m f = (end, ends_with_end set dir p end m within (same_if_stays set dir p end here there f.0))
-run_of_member set dir p end answers.Edge here there within m f = (end, ends_with_end set dir p end m within (same_if_stays set dir p end here there f.0))
+run_of_member : (set : ℤ → Bool) (dir : Dir) (p end : ℤ) (a : Answer) → IsCalendarPosition p
+    → IsCalendarPosition end → IsUpTo dir end p → set p ≡ true → IsFound set None dir p a
+    → (far : ℤ) × IsFirstRun set dir p end p far
+run_of_member set dir p end (answers.At x) here there within m f =
+    elim (before_or_past dir x.0 end) [
+      | inl past ↦ (
+        one_before dir x.0,
+        ends_at_change set dir p x.0 end (one_before dir x.0) m f.0 past
+            (one_before-on dir x.0),
+      )
+      | inr before ↦ (
+        end,
+        ends_with_end set dir p end m within (same_if_change_past set dir p x.0 end
+            f.0 (λ near. not_both_ways dir x.0 end near before)),
+      )
+    ]
+run_of_member set dir p end (answers.None w) here there within m f =
+    (end, ends_with_end set dir p end m within (same_if_stays set dir p end here there f.0))
+run_of_member set dir p end answers.Edge here there within m f =
+    (end, ends_with_end set dir p end m within (same_if_stays set dir p end here there f.0))
 run_of_member set dir p end (answers.Budget s) here there within m f = absurd f
 
 -- the run of the first member
-run_of_first : (set : ℤ → Bool) (dir : Dir) (p end near far : ℤ) → IsFirstMember set dir p end near → IsFirstRun set dir near end near far → IsFirstRun set dir p end near far
+run_of_first : (set : ℤ → Bool) (dir : Dir) (p end near far : ℤ) → IsFirstMember set dir p end near
+    → IsFirstRun set dir near end near far → IsFirstRun set dir p end near far
 run_of_first set dir p end near far first run = record {
   from = first.from;
   none_before = first.none_before;
@@ -45,45 +59,60 @@ run_of_first set dir p end near far first run = record {
 }
 
 module _ (some : SearchesAreAnswered) where
-  of_member : (set : ℤ → Bool) (dir : Dir) (p end : ℤ) → IsCalendarPosition p → IsCalendarPosition end → IsUpTo dir end p → set p ≡ true → (far : ℤ) × IsFirstRun set dir p end p far
+  of_member : (set : ℤ → Bool) (dir : Dir) (p end : ℤ) → IsCalendarPosition p
+      → IsCalendarPosition end → IsUpTo dir end p → set p ≡ true → (far : ℤ)
+      × IsFirstRun set dir p end p far
   of_member set dir p end here there within m =
       let a = some set None dir p here in
       run_of_member set dir p end a.0 here there within m a.1
 
-  past_gap : (set : ℤ → Bool) (dir : Dir) (p end : ℤ) (a : Answer) → IsCalendarPosition p → IsCalendarPosition end → set p ≡ false → IsFound set None dir p a → ((near : ℤ) × (far : ℤ) × IsFirstRun set dir p end near far) ⊎ HasNoMember set dir p end
+  past_gap : (set : ℤ → Bool) (dir : Dir) (p end : ℤ) (a : Answer) → IsCalendarPosition p
+      → IsCalendarPosition end → set p ≡ false → IsFound set None dir p a → ((near : ℤ) × (far : ℤ)
+      × IsFirstRun set dir p end near far) ⊎ HasNoMember set dir p end
   past_gap set dir p end (answers.At x) here there gap f = elim (before_or_past dir x.0 end) [
     | inl past ↦
         let first = first_at_change set dir p x.0 end gap f.0 past in
         let run = of_member set dir x.0 end f.1 there past first.member in
         inl (x.0, run.0, run_of_first set dir p end x.0 run.0 first run.1)
-    | inr before ↦ inr (none_if_same set dir p end gap (same_if_change_past set dir p x.0 end f.0 (λ near. not_both_ways dir x.0 end near before)))
+    | inr before ↦ inr (none_if_same set dir p end gap (same_if_change_past set dir p x.0 end f.0
+        (λ near. not_both_ways dir x.0 end near before)))
   ]
-  past_gap set dir p end (answers.None w) here there gap f = inr (none_if_same set dir p end gap (same_if_stays set dir p end here there f.0))
-  past_gap set dir p end answers.Edge here there gap f = inr (none_if_same set dir p end gap (same_if_stays set dir p end here there f.0))
+  past_gap set dir p end (answers.None w) here there gap f =
+      inr (none_if_same set dir p end gap (same_if_stays set dir p end here there f.0))
+  past_gap set dir p end answers.Edge here there gap f =
+      inr (none_if_same set dir p end gap (same_if_stays set dir p end here there f.0))
   past_gap set dir p end (answers.Budget s) here there gap f = absurd f
 
   pub some_run : RunsExist
-  some_run set dir p end here there within = elim (set p) as (λ b. set p ≡ b → ((near : ℤ) × (far : ℤ) × IsFirstRun set dir p end near far) ⊎ HasNoMember set dir p end) [
-    | true ↦ λ m. let run = of_member set dir p end here there within m in inl (p, run.0, run.1)
-    | false ↦ λ gap. let a = some set None dir p here in past_gap set dir p end a.0 here there gap a.1
-  ] refl
+  some_run set dir p end here there within =
+      elim (set p) as (λ b. set p ≡ b → ((near : ℤ) × (far : ℤ) × IsFirstRun set dir p end near far)
+      ⊎ HasNoMember set dir p end) [
+        | true ↦ λ m. let run = of_member set dir p end here there within m in inl (p, run.0, run.1)
+        | false ↦ λ gap. let a =
+            some set None dir p here in past_gap set dir p end a.0 here there gap a.1
+      ] refl
 
 -- the first member isn't past another member
-not_later : (set : ℤ → Bool) (dir : Dir) (p end near far q : ℤ) → IsFirstRun set dir p end near far → IsUpTo dir q p → set q ≡ true → IsUpTo dir q near
+not_later : (set : ℤ → Bool) (dir : Dir) (p end near far q : ℤ) → IsFirstRun set dir p end near far
+    → IsUpTo dir q p → set q ≡ true → IsUpTo dir q near
 not_later set dir p end near far q run from m = elim (before_or_past dir near q) [
   | inl h ↦ h
   | inr h ↦ absurd (true-false (set q) m (run.none_before q from h))
 ]
 
 -- and the last one isn't past another run's last one
-not_further : (set : ℤ → Bool) (dir : Dir) (p end near far first last : ℤ) → IsFirstRun set dir p end near far → IsFirstRun set dir p end first last → near ≡ first → IsUpTo dir far last
+not_further : (set : ℤ → Bool) (dir : Dir) (p end near far first last : ℤ)
+    → IsFirstRun set dir p end near far → IsFirstRun set dir p end first last → near ≡ first
+    → IsUpTo dir far last
 not_further set dir p end near far first last a b same = elim (before_or_past dir last far) [
   | inl h ↦ h
   | inr h ↦ elim a.ends [
     | inl e ↦ let P : ℤ → Type 0 = λ z. IsUpTo dir z last in subst P (sym e) b.within
     | inr gap ↦
         let P : ℤ → Type 0 = λ z. IsUpTo dir far z in
-        let on : IsUpTo dir (ahead dir far 1) first = trans_up_to dir first far (ahead dir far 1) (subst P same a.some) (ahead_up_to dir far 1) in
+        let on : IsUpTo dir (ahead dir far 1) first =
+        trans_up_to dir first far (ahead dir far 1) (subst P same a.some) (ahead_up_to dir far
+        1) in
         absurd (true-false (set (ahead dir far 1)) (b.members (ahead dir far 1) on h) gap)
   ]
 ]
@@ -92,5 +121,10 @@ pub one_run : RunsAreUnique
 one_run set dir p end near far first last a b =
     let a_member : set near ≡ true = a.members near (self_up_to dir near) a.some in
     let b_member : set first ≡ true = b.members first (self_up_to dir first) b.some in
-    let same : near ≡ first = one_place dir near first (not_later set dir p end near far first a b.from b_member) (not_later set dir p end first last near b a.from a_member) in
-    (same, one_place dir far last (not_further set dir p end first last near far b a (sym same)) (not_further set dir p end near far first last a b same))
+    let same : near ≡ first =
+    one_place dir near first (not_later set dir p end near far first a b.from b_member)
+    (not_later set dir p end first last near b a.from a_member) in (
+      same,
+      one_place dir far last (not_further set dir p end first last near far b a (sym same))
+          (not_further set dir p end near far first last a b same),
+    )

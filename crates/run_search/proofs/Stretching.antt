@@ -1,5 +1,5 @@
 -- What the answers of searches say of the positions up to an end.
-use Rattle.std.proofs.Common.{◌≡◌, ◌⊎◌, inl, inr, ap, refl, sym, subst, ◌∙◌, arith, ℕ, ◌<◌, ℤ, Bool, true, false, not, Option, IsTrue, ◌↔◌}
+use Rattle.std.proofs.Common.{◌≡◌, ◌⊎◌, inl, inr, ap, refl, sym, subst, ◌∙◌, arith, ℕ, ◌<◌, ◌≤◌, ℤ, Bool, true, false, not, Option, IsTrue, ◌↔◌}
 use Rattle.std.proofs.lemmas.Int.{ints}
 use Rattle.moment_core.specs.Line.{IsCalendarPosition}
 use Rattle.moment_core.specs.Sets.{ahead, IsNextChange, StaysInRange, IsUpTo, range_end}
@@ -7,8 +7,8 @@ use Rattle.moment_core.specs.declared.line.Dir.{Dir}
 use Rattle.moment_core.specs.declared.line.Dir.TheVariants.{Fore, Back}
 use Rattle.moment_core.specs.declared.line.Window.{Window}
 use Rattle.moment_core.proofs.LineLaws.{seen-zero}
-use Rattle.moment_core.proofs.Order.{ahead_up_to, before_or_past, fewer_steps, in_range-within, no_more_steps, not_both_ways, one_on_up_to, self_up_to, steps_to, trans_up_to}
-use Rattle.span_core.specs.Answers.{IsFound}
+use Rattle.moment_core.proofs.Order.{before_or_past, fewer_steps, in_range-within, no_more_steps, not_both_ways, one_on_up_to, self_up_to, steps_to, trans_up_to, up_to_end}
+use Rattle.span_core.specs.Answers.{IsFound, StopsAt}
 use Rattle.span_core.specs.declared.answers.Answer.TheVariants as answers
 use Rattle.span_core.specs.declared.answers.Why.{Why}
 use Rattle.span_core.specs.declared.answers.Why.TheVariants as whys
@@ -16,7 +16,11 @@ use Rattle.span_core.specs.declared.answers.Stop.{Stop}
 use Rattle.stored_pair.specs.Meanings.{Meaning}
 use Rattle.expr_tree.specs.Members.{is_member}
 use Rattle.expr_tree.specs.Tree.{Tree}
-use Rattle.cert_audit.specs.Due.{IsDue}
+use Rattle.frame_core.specs.Frames.{window_if_framed}
+use Rattle.search_core.specs.Candidates.{candidates}
+use Rattle.search_core.specs.Due.{IsDue}
+use Rattle.search_core.specs.Laws.{StopsOfTestsAreNumbered}
+use Rattle.search_core.specs.TreeFrames.{frame_of_tree}
 use Rattle.run_search.specs.Finding.{IsWhy, TellsWhy}
 use Rattle.run_search.specs.Places.{IsStopFrom}
 use Rattle.run_search.specs.Runs.{HasNoMember, IsFirstMember, IsFirstRun, IsSameUpTo}
@@ -67,24 +71,48 @@ same_if_stays set dir p end here there stays q h k =
     let P : ℤ → Type 0 = λ z. IsCalendarPosition z in
     ap set s.1 ∙ stays s.0 (subst P s.1 (in_range-within dir p q end here there h k))
 
--- nothing differs up to a stop of the search, which is past its place
-same_up_to_stop : (tree : Tree Meaning) (dir : Dir) (p : ℤ) (budget : ℕ) (s : Stop) → IsDue tree dir p budget s → IsSameUpTo (is_member tree) dir p s.at.0
-same_up_to_stop tree dir p budget s due q h k =
-    let t = steps_to dir p q h in
-    ap (is_member tree) t.1 ∙ due.1.stays t.0 (no_more_steps dir p q s.at.0 t.0 due.0 t.1 due.1.place k)
+-- a position of the range is not past an end that is the range's own, nor past one that it lies before
+not_past_end : (dir : Dir) (end at : ℤ) → IsCalendarPosition at → (end ≡ range_end dir) ⊎ IsUpTo dir end (ahead dir at 1) → IsUpTo dir end at
+not_past_end dir end at here (inr h) = one_on_up_to dir at end h
+not_past_end dir end at here (inl e) = let P : ℤ → Type 0 = λ z. IsUpTo dir z at in subst P (sym e) (up_to_end dir at here)
 
-stop_past : (tree : Tree Meaning) (dir : Dir) (p : ℤ) (budget : ℕ) (s : Stop) → IsDue tree dir p budget s → IsUpTo dir s.at.0 p
-stop_past tree dir p budget s due =
-    let P : ℤ → Type 0 = λ z. IsUpTo dir z p in
-    subst P (sym due.1.place) (ahead_up_to dir p due.0)
+module _ (numbered : StopsOfTestsAreNumbered) where
+  -- a stop that isn't one of a node is the search's own
+  own_stop : (tree : Tree Meaning) (dir : Dir) (p : ℤ) (budget : ℕ) (s : Stop) → IsDue tree dir p budget s → s.node ≡ 0
+      → (n : ℕ) × StopsAt (is_member tree) (candidates tree) (window_if_framed (frame_of_tree tree) dir p) dir p budget s n
+  own_stop tree dir p budget s due e = elim due [
+    | inl own ↦ own
+    | inr way ↦ absurd (let h : 1 ≤ s.node = numbered tree 1 budget s (ahead dir p way.0) way.1.due in omega arith)
+  ]
 
-pub same_if_cut : (tree : Tree Meaning) (dir : Dir) (p end : ℤ) (budget : ℕ) (s : Stop) → IsDue tree dir p budget s → IsUpTo dir s.at.0 end → IsSameUpTo (is_member tree) dir p end
-same_if_cut tree dir p end budget s due cut q h k =
-    same_up_to_stop tree dir p budget s due q h (trans_up_to dir q end s.at.0 k cut)
+  pub own_in_range : (tree : Tree Meaning) (dir : Dir) (p : ℤ) (budget : ℕ) (s : Stop) → IsDue tree dir p budget s → s.node ≡ 0 → IsCalendarPosition s.at.0
+  own_in_range tree dir p budget s due e = (own_stop tree dir p budget s due e).1.in_range
 
-pub stop_from : (tree : Tree Meaning) (dir : Dir) (p end : ℤ) (budget : ℕ) (s : Stop) → IsDue tree dir p budget s → (s.node ≡ 0 → (end ≡ range_end dir) ⊎ IsUpTo dir end (ahead dir s.at.0 1)) → IsStopFrom (is_member tree) (IsDue tree) dir p end budget s
-stop_from tree dir p end budget s due before =
-    ((due, before), λ e. (stop_past tree dir p budget s due, same_up_to_stop tree dir p budget s due))
+  -- nothing differs up to it, and it is past the search's place
+  same_up_to_stop : (tree : Tree Meaning) (dir : Dir) (p : ℤ) (budget : ℕ) (s : Stop) → IsDue tree dir p budget s → s.node ≡ 0 → IsSameUpTo (is_member tree) dir p s.at.0
+  same_up_to_stop tree dir p budget s due e q h k =
+      let own = own_stop tree dir p budget s due e in
+      let t = steps_to dir p q h in
+      ap (is_member tree) t.1 ∙ own.1.stays t.0 (no_more_steps dir p q s.at.0 t.0 own.0 t.1 own.1.place k)
+
+  stop_past : (tree : Tree Meaning) (dir : Dir) (p : ℤ) (budget : ℕ) (s : Stop) → IsDue tree dir p budget s → s.node ≡ 0 → IsUpTo dir s.at.0 (ahead dir p 1)
+  stop_past tree dir p budget s due e =
+      let own = own_stop tree dir p budget s due e in
+      later_by_steps dir p s.at.0 own.0 own.1.place own.1.later
+
+  pub same_if_cut : (tree : Tree Meaning) (dir : Dir) (p end : ℤ) (budget : ℕ) (s : Stop) → IsDue tree dir p budget s → s.node ≡ 0 → IsUpTo dir s.at.0 end → IsSameUpTo (is_member tree) dir p end
+  same_if_cut tree dir p end budget s due e cut q h k =
+      same_up_to_stop tree dir p budget s due e q h (trans_up_to dir q end s.at.0 k cut)
+
+  pub stop_from : (tree : Tree Meaning) (dir : Dir) (p end : ℤ) (budget : ℕ) (s : Stop) → IsDue tree dir p budget s → (s.node ≡ 0 → (end ≡ range_end dir) ⊎ IsUpTo dir end (ahead dir s.at.0 1)) → IsStopFrom (is_member tree) (IsDue tree) dir p end budget s
+  stop_from tree dir p end budget s due before = (
+    (due, before),
+    λ e. (
+      stop_past tree dir p budget s due e,
+      not_past_end dir end s.at.0 (own_in_range tree dir p budget s due e) (before e),
+      same_up_to_stop tree dir p budget s due e,
+    ),
+  )
 
 -- the run of a member ends right before the change, or with the end
 pub ends_at_change : (set : ℤ → Bool) (dir : Dir) (p x end far : ℤ) → set p ≡ true → IsNextChange set dir p x → IsUpTo dir end x → ahead dir far 1 ≡ x → IsFirstRun set dir p end p far

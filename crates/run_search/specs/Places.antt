@@ -40,8 +40,10 @@ abbrev pub IsDueBefore : ℤ → (Dir → ℤ → ℕ → Stop → Type 0) → D
 IsDueBefore end due dir p budget s =
     due dir p budget s × (s.node ≡ 0 → (end ≡ range_end dir) ⊎ IsUpTo dir end (ahead dir s.at.0 1))
 
--- such a stop in a search from p, up to which nothing differs where the search itself stopped
+-- such a stop in a search from p: where the search itself stopped, it did past p and not past the
+-- end, and nothing differs up to there
 abbrev pub IsStopFrom : (ℤ → Bool) → (Dir → ℤ → ℕ → Stop → Type 0) → Dir → ℤ → ℤ → ℕ → Stop → Type 0
 IsStopFrom set due dir p end budget s =
     IsDueBefore end due dir p budget s
-    × (s.node ≡ 0 → IsUpTo dir s.at.0 p × IsSameUpTo set dir p s.at.0)
+    × (s.node ≡ 0
+    → IsUpTo dir s.at.0 (ahead dir p 1) × IsUpTo dir end s.at.0 × IsSameUpTo set dir p s.at.0)

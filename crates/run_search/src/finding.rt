@@ -8,6 +8,7 @@ ghost use Rattle.run_search.specs.Runs.{IsFirstRun};
 
 use moment_core::{Dir, Pos, Steps};
 use plan_core::Plan;
+use search_core::due_laws;
 use span_core::{Answer, Stop, Test, Why, is_up_to, one_back, one_on, range_end};
 use std::sync::ledger::Ledger;
 
@@ -33,6 +34,7 @@ pub fn holds<L: Ledger>(
     ensures same { meant_of_plan plan.new ≡ meant_of_plan plan.old }
     ensures counted { steps.old ≤ steps.new }
 {
+    due_laws();
     match plan.test(p, budget, steps) {
         Test::In => Ok(true),
         Test::Out => Ok(false),
@@ -42,7 +44,7 @@ pub fn holds<L: Ledger>(
 
 /// Whether a stop isn't due, since searches are cut at an end before it.
 fn is_cut(dir: Dir, end: Pos, stop: Stop) -> bool
-    requires { IsCalendarPosition stop.at.0 }
+    requires { stop.node ≡ 0 → IsCalendarPosition stop.at.0 }
     ensures due { result ≡ false → stop.node ≡ 0
         → (end.0 ≡ range_end dir) ⊎ IsUpTo dir end.0 (ahead dir stop.at.0 1) }
     ensures cut { result ≡ true → IsUpTo dir stop.at.0 end.0 }
@@ -75,6 +77,7 @@ pub fn last_of_run<L: Ledger>(
     ensures same { meant_of_plan plan.new ≡ meant_of_plan plan.old }
     ensures counted { steps.old ≤ steps.new }
 {
+    due_laws();
     match plan.change(p, dir, budget, steps) {
         Answer::At(q) => {
             if is_up_to(dir, end, q) {
@@ -120,8 +123,8 @@ pub fn first_of_run<L: Ledger>(
     }
 }
 
-/// The first member past a position that is none, up to the end.
-fn first_past_gap<L: Ledger>(
+/// The first member past a position that is none, up to the end, or why there is none.
+pub fn first_past_gap<L: Ledger>(
     plan: &mut Plan,
     dir: Dir,
     p: Pos,
@@ -139,6 +142,7 @@ fn first_past_gap<L: Ledger>(
     ensures same { meant_of_plan plan.new ≡ meant_of_plan plan.old }
     ensures counted { steps.old ≤ steps.new }
 {
+    due_laws();
     match plan.change(p, dir, budget, steps) {
         Answer::At(q) => {
             if is_up_to(dir, end, q) {

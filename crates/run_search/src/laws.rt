@@ -1,7 +1,7 @@
 ghost use Rattle.run_search.specs.Laws.{AmpleFindsAll, EnoughFindsAll, ItemsAreInRange, ItemsHoldForEver, NoneIsForEver, RunsAreUnique, RunsExist};
 
-use cert_audit::{ample_laws, tree_frame_laws};
 use frame_core::window_laws;
+use search_core::{ample_laws, tree_frame_laws};
 use span_core::answer_laws;
 
 /// From each position of the calendar range up to another, either way, a set has a first run or no

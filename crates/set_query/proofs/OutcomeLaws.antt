@@ -1,6 +1,9 @@
 -- Words and a text have one outcome.
 use Rattle.std.proofs.Common.{◌≡◌, ◌≢◌, ◌⊎◌, inl, inr, ℕ, ℤ, Bool, true, false, List, sym, ◌∙◌, ap, subst, refl, Option, Some, None, Result, Ok, Err, cond, option_map}
-use Rattle.cert_audit.specs.Lawful.{AreLawful}
+use Rattle.std.proofs.lemmas.Bool.{cases_Bool}
+use Rattle.search_core.specs.Lawful.{AreLawful}
+use Rattle.moment_core.proofs.Truths.{true-false}
+use Rattle.span_core.specs.declared.answers.Test.TheVariants as tests
 use Rattle.cert_audit.specs.Laws.{FirstUnsettledIsOne, SettledHaveNone, TreesSettleOrNot, WellFormedAreLawful}
 use Rattle.expr_text.specs.Accepted.{IsRead}
 use Rattle.expr_text.specs.Fault.{Fault}
@@ -32,16 +35,14 @@ use Rattle.query_words.specs.declared.queries.Query.TheVariants.{Near as NearBy,
 use Rattle.query_words.specs.declared.queries.WordsFault.{WordsFault}
 use Rattle.query_words.specs.declared.queries.Neighbour.{Neighbour}
 use Rattle.query_words.specs.declared.queries.Neighbour.TheVariants.{Next, Previous, Current, Closest, Contains}
-use Rattle.report_text.specs.Lines.{test_line}
 use Rattle.span_core.specs.declared.answers.Near.{Near}
 use Rattle.span_core.specs.declared.answers.Stop.{Stop}
-use Rattle.cert_audit.specs.Searches.{test_of}
 use Rattle.report_text.specs.declared.refusals.Refusal.{Refusal}
 use Rattle.report_text.specs.declared.refusals.Refusal.TheVariants as refusals
 use Rattle.set_query.specs.Laws.{OutcomesAreUnique, OutcomesExist, RefusalsAreAlone}
 use Rattle.set_query.specs.Reading.{AreSecondSorts, AreSettledFor, AreSorts, Fits, IsMeant, IsUnsettledFor, Reading, OnClock, Passes, Settles, Sorts, faulty, on_clock, sets, sets_clock, settled, takes, unless_clock, unless_two, unsettled, words_clock}
 use Rattle.set_query.specs.Refusals.{text_refusal, words_refusal}
-use Rattle.set_query.specs.Report.{Outcome, IsInRange, IsOutcome, IsPrinted, IsReply, IsAskedBy, IsReportOf, IsSearched, IsTested, answered, answers, asked, bad_words, printed, refused, refused_by, replied, stops, tested, told, window_given}
+use Rattle.set_query.specs.Report.{Outcome, IsInRange, IsOutcome, IsPrinted, IsReply, IsAskedBy, IsReportOf, IsSearched, IsTested, answered, answers, asked, bad_words, printed, refused, refused_by, replied, stops, tested, told, told_test, window_given}
 use Rattle.set_query.proofs.OutcomeLemmas.{report_not_refused as not_refused}
 use Rattle.walk_core.specs.Tokens.{window_token}
 use Rattle.set_query.proofs.PreparingLemmas.{asks_in_range}
@@ -54,15 +55,20 @@ one_searched one a b (stops s is not) k d e = absurd (d refl)
 one_searched one a b (answers near is) (stops s also not) d e = absurd (e refl)
 one_searched {found} {places} {due} {kind} {clock} one a b (answers near is) (answers other also) d e = ap (told kind clock) (one near other is also)
 
-one_tested : {member : Bool} (a b : Outcome) → IsTested member a → IsTested member b → a ≡ b
-one_tested a b tested tested = refl
+one_tested : {t : Tree Meaning} {p : ℤ} {budget : ℕ} (a b : Outcome) → IsTested t p budget a → IsTested t p budget b → a.status ≢ 3 → b.status ≢ 3 → a ≡ b
+one_tested a b (tested (tests.Budget s) is) k d e = absurd (d refl)
+one_tested a b h (tested (tests.Budget s) is) d e = absurd (e refl)
+one_tested a b (tested tests.In is) (tested tests.In also) d e = refl
+one_tested a b (tested tests.Out is) (tested tests.Out also) d e = refl
+one_tested {t} {p} a b (tested tests.In is) (tested tests.Out also) d e = absurd (true-false (is_member t p) is also)
+one_tested {t} {p} a b (tested tests.Out is) (tested tests.In also) d e = absurd (true-false (is_member t p) also is)
 
 one_asked : NeighboursAreUnique → (t : Tree Meaning) (side : Neighbour) (kind : Kind) (clock : Clock) (at : ℤ) (budget : ℕ) (a b : Outcome) → IsAskedBy t side kind clock at budget a → IsAskedBy t side kind clock at budget b → a.status ≢ 3 → b.status ≢ 3 → a ≡ b
 one_asked runs t Next kind clock at budget a b h k = one_searched (λ x y is also. runs.next (is_member t) (window_of t) Fore at x y is.0 also.0) a b h k
 one_asked runs t Previous kind clock at budget a b h k = one_searched (λ x y is also. runs.next (is_member t) (window_of t) Back at x y is.0 also.0) a b h k
 one_asked runs t Current kind clock at budget a b h k = one_searched (λ x y is also. runs.current (is_member t) (window_of t) at x y is.0 also.0) a b h k
 one_asked runs t Closest kind clock at budget a b h k = one_searched (λ x y is also. runs.closest (is_member t) (window_of t) at x y is.0 also.0) a b h k
-one_asked runs t Contains kind clock at budget a b h k = λ d e. one_tested a b h k
+one_asked runs t Contains kind clock at budget a b h k = one_tested a b h k
 
 one_printed : {trees : Trees} (a b : Outcome) → IsPrinted trees a → IsPrinted trees b → a ≡ b
 one_printed a b printed printed = refl
@@ -250,7 +256,10 @@ some_asked runs hold t Current kind clock at budget range h =
 some_asked runs hold t Closest kind clock at budget range h =
     let near = runs.closest (is_member t) (window_of t) at range in
     (told kind clock near.0, answers near.0 (near.1, hold.closest t at near.0 h range near.1))
-some_asked runs hold t Contains kind clock at budget range h = (record { status = 0; bytes = test_line (test_of (is_member t (position_of at))) }, tested)
+some_asked runs hold t Contains kind clock at budget range h = elim (cases_Bool (is_member t (position_of at))) [
+  | inl within ↦ (told_test tests.In, tested tests.In within)
+  | inr without ↦ (told_test tests.Out, tested tests.Out without)
+]
 
 -- some report is made of a reading
 some_report : NeighboursExist → NeighboursHoldForEver → Walks → (entries : Entries) (query : Query) (reading : Reading) (clock : Clock) → IsInRange query → CanMean entries reading → (o : Outcome) × IsReportOf entries query reading clock o

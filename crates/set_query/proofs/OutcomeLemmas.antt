@@ -27,7 +27,7 @@ use Rattle.expr_tree.specs.Sorts.{sort_of_tree}
 use Rattle.expr_tree.specs.Laws.{SortedStayInReach}
 use Rattle.expr_tree.specs.declared.sorting.Sort.{Sort}
 use Rattle.query_core.specs.Laws.{AmpleFindsNeighbours, EnoughFindsNeighbours}
-use Rattle.moment_core.specs.Line.{IsCalendarMoment}
+use Rattle.moment_core.specs.Line.{IsCalendarMoment, position_of}
 use Rattle.moment_core.specs.declared.line.Dir.{Dir}
 use Rattle.moment_core.specs.declared.line.Dir.TheVariants.{Fore, Back}
 use Rattle.span_core.specs.declared.answers.Near.{Near}
@@ -43,7 +43,11 @@ use Rattle.set_query.specs.declared.reading.TheConstants.{ROOM}
 use Rattle.set_query.specs.Reading.{AreSorts, IsMeant, Reading, OnClock, Passes, Settles, faulty, on_clock, sets, sets_clock, settled, takes, words_clock}
 use Rattle.set_query.specs.Refusals.{words_refusal}
 use Rattle.set_query.specs.Report.{Outcome, HasAmpleBudget, IsAmpleBy, IsAbovePlaces, IsAskedBy, IsEnough, IsFoundBy, IsInRange, IsOutcome, IsPrinted, IsReply, IsReportOf, IsSearched, IsTested, answers, asked, bad_words, printed, refused, refused_by, replied, status_of, stops, tested, window_given}
-use Rattle.cert_audit.specs.Ample.{IsAmple}
+use Rattle.search_core.specs.Ample.{IsAmple}
+use Rattle.search_core.specs.Due.{IsDueInTest}
+use Rattle.search_core.specs.Laws.{AheadNeverStopsTests, AmpleNeverStopsTests}
+use Rattle.moment_core.proofs.LineLaws.{position_in_range}
+use Rattle.span_core.specs.declared.answers.Test.TheVariants as tests
 use Rattle.walk_core.specs.Tokens.{window_token}
 use Rattle.set_query.proofs.PreparingLemmas.{asks_in_range}
 use Rattle.set_query.proofs.WalkLemmas.{Walks, walk_done, walk_never_stops, walk_not_refused, window_fits}
@@ -136,22 +140,34 @@ module _ {found : Near → Type 0} {places : Dir → ℤ → Type 0} {due : Dir 
   searched_never_stops none (answers (nears.Budget s) is) e ample = none s is
   searched_never_stops none (stops s is not) e ample = not ample
 
-tested_done : {member : Bool} {o : Outcome} → IsTested member o → o.status ≡ 0
-tested_done tested = refl
+tested_done : {t : Tree Meaning} {p : ℤ} {budget : ℕ} {o : Outcome} → IsTested t p budget o → IsDone o.status
+tested_done (tested tests.In is) = inl refl
+tested_done (tested tests.Out is) = inl refl
+tested_done (tested (tests.Budget s) is) = inr (inr refl)
+
+tested_not_refused : {t : Tree Meaning} {p : ℤ} {budget : ℕ} {o : Outcome} → IsTested t p budget o → o.status ≡ 2 → ⊥
+tested_not_refused (tested tests.In is) e = absurd (omega (arith, e))
+tested_not_refused (tested tests.Out is) e = absurd (omega (arith, e))
+tested_not_refused (tested (tests.Budget s) is) e = absurd (omega (arith, e))
+
+tested_never_stops : {t : Tree Meaning} {p : ℤ} {budget : ℕ} {o : Outcome} → IsTested t p budget o → o.status ≡ 3 → ((s : Stop) → IsDueInTest t p budget s → ⊥) → ⊥
+tested_never_stops (tested tests.In is) e none = absurd (omega (arith, e))
+tested_never_stops (tested tests.Out is) e none = absurd (omega (arith, e))
+tested_never_stops (tested (tests.Budget s) is) e none = none s is
 
 asked_done : (t : Tree Meaning) (side : Neighbour) (kind : Kind) (clock : Clock) (at : ℤ) (budget : ℕ) (o : Outcome) → IsAskedBy t side kind clock at budget o → IsDone o.status
 asked_done t Next kind clock at budget o h = searched_done h
 asked_done t Previous kind clock at budget o h = searched_done h
 asked_done t Current kind clock at budget o h = searched_done h
 asked_done t Closest kind clock at budget o h = searched_done h
-asked_done t Contains kind clock at budget o h = inl (tested_done h)
+asked_done t Contains kind clock at budget o h = tested_done h
 
 asked_not_refused : (t : Tree Meaning) (side : Neighbour) (kind : Kind) (clock : Clock) (at : ℤ) (budget : ℕ) (o : Outcome) → IsAskedBy t side kind clock at budget o → o.status ≡ 2 → ⊥
 asked_not_refused t Next kind clock at budget o h e = searched_not_refused h e
 asked_not_refused t Previous kind clock at budget o h e = searched_not_refused h e
 asked_not_refused t Current kind clock at budget o h e = searched_not_refused h e
 asked_not_refused t Closest kind clock at budget o h e = searched_not_refused h e
-asked_not_refused t Contains kind clock at budget o h e = let zero = tested_done h in absurd (omega (arith, e, zero))
+asked_not_refused t Contains kind clock at budget o h e = tested_not_refused h e
 
 printed_done : {trees : Trees} {o : Outcome} → IsPrinted trees o → o.status ≡ 0
 printed_done printed = refl
@@ -211,19 +227,21 @@ never_stops t Next kind clock at budget o h e ample = searched_never_stops (no_s
 never_stops t Previous kind clock at budget o h e ample = searched_never_stops (no_stop t Previous at) h e ample
 never_stops t Current kind clock at budget o h e ample = searched_never_stops (no_stop t Current at) h e ample
 never_stops t Closest kind clock at budget o h e ample = searched_never_stops (no_stop t Closest at) h e ample
-never_stops t Contains kind clock at budget o h e ample = let zero = tested_done h in absurd (omega (arith, e, zero))
+never_stops t Contains kind clock at budget o h e ample = tested_never_stops h e ample
 
 -- a budget that is enough stops no search, for a tree with a sort
-never_due : EnoughFindsNeighbours → AmpleFindsNeighbours → SortedStayInReach → (entries : Entries) (t : Tree Rule) (side : Neighbour) (sort : Sort) (at : ℤ) (budget : ℕ) → sort_of_tree t ≡ Ok sort → IsCalendarMoment at → (IsAbovePlaces (meant_of entries t) side at budget ⊎ IsAmple (meant_of entries t) budget) → IsAmpleBy (meant_of entries t) side at budget
-never_due enough finds reach entries t Next sort at budget sorted here (inl above) = enough.next (meant_of entries t) Fore budget at here above
-never_due enough finds reach entries t Next sort at budget sorted here (inr ample) = finds.next (meant_of entries t) Fore budget at (reach entries t sort sorted) here ample
-never_due enough finds reach entries t Previous sort at budget sorted here (inl above) = enough.next (meant_of entries t) Back budget at here above
-never_due enough finds reach entries t Previous sort at budget sorted here (inr ample) = finds.next (meant_of entries t) Back budget at (reach entries t sort sorted) here ample
-never_due enough finds reach entries t Current sort at budget sorted here (inl above) = enough.current (meant_of entries t) budget at here above
-never_due enough finds reach entries t Current sort at budget sorted here (inr ample) = finds.current (meant_of entries t) budget at (reach entries t sort sorted) here ample
-never_due enough finds reach entries t Closest sort at budget sorted here (inl above) = enough.closest (meant_of entries t) budget at here above
-never_due enough finds reach entries t Closest sort at budget sorted here (inr ample) = finds.closest (meant_of entries t) budget at (reach entries t sort sorted) here ample
-never_due enough finds reach entries t Contains sort at budget sorted here h = λ dir place none. absurd none
+never_due : AheadNeverStopsTests → AmpleNeverStopsTests → EnoughFindsNeighbours → AmpleFindsNeighbours → SortedStayInReach → (entries : Entries) (t : Tree Rule) (side : Neighbour) (sort : Sort) (at : ℤ) (budget : ℕ) → sort_of_tree t ≡ Ok sort → IsCalendarMoment at → (IsAbovePlaces (meant_of entries t) side at budget ⊎ IsAmple (meant_of entries t) budget) → IsAmpleBy (meant_of entries t) side at budget
+never_due ahead ample_tests enough finds reach entries t Next sort at budget sorted here (inl above) = enough.next (meant_of entries t) Fore budget at here above
+never_due ahead ample_tests enough finds reach entries t Next sort at budget sorted here (inr ample) = finds.next (meant_of entries t) Fore budget at (reach entries t sort sorted) here ample
+never_due ahead ample_tests enough finds reach entries t Previous sort at budget sorted here (inl above) = enough.next (meant_of entries t) Back budget at here above
+never_due ahead ample_tests enough finds reach entries t Previous sort at budget sorted here (inr ample) = finds.next (meant_of entries t) Back budget at (reach entries t sort sorted) here ample
+never_due ahead ample_tests enough finds reach entries t Current sort at budget sorted here (inl above) = enough.current (meant_of entries t) budget at here above
+never_due ahead ample_tests enough finds reach entries t Current sort at budget sorted here (inr ample) = finds.current (meant_of entries t) budget at (reach entries t sort sorted) here ample
+never_due ahead ample_tests enough finds reach entries t Closest sort at budget sorted here (inl above) = enough.closest (meant_of entries t) budget at here above
+never_due ahead ample_tests enough finds reach entries t Closest sort at budget sorted here (inr ample) = finds.closest (meant_of entries t) budget at (reach entries t sort sorted) here ample
+never_due ahead ample_tests enough finds reach entries t Contains sort at budget sorted here (inl looks) = ahead (meant_of entries t) (position_of at) budget looks
+never_due ahead ample_tests enough finds reach entries t Contains sort at budget sorted here (inr ample) =
+    ample_tests (meant_of entries t) (position_of at) budget (reach entries t sort sorted) (position_in_range at here) ample
 
 -- no phase behind the text's own changes what it is read as
 pub reading_kept : (query : Query) (text : List ℕ) (x : OnClock) → Passes query text (Ok x) → IsMeant text (Ok x.reading)
@@ -251,6 +269,8 @@ meant_trees text reading other e (sets _ h are) = subst (HasTrees text) e (recor
 
 -- what is known of ample budgets
 pub record Budgets : Type 0 where
+  pub ahead : AheadNeverStopsTests
+  pub tests : AmpleNeverStopsTests
   pub above : EnoughFindsNeighbours
   pub finds : AmpleFindsNeighbours
   pub walks : Walks
@@ -260,7 +280,7 @@ asks_no_stop : Budgets → (entries : Entries) (query : Query) (reading : Readin
 asks_no_stop budgets entries Show reading clock o within sorted h e enough = let zero = printed_done h in absurd (omega (arith, e, zero))
 asks_no_stop budgets entries (NearBy side at budget) reading clock o within sorted h e enough =
     never_stops (meant_of entries reading.trees.first) side reading.sorts.first.kind clock at.moment.0 budget o h e
-    (never_due budgets.above budgets.finds budgets.reach entries reading.trees.first side reading.sorts.first at.moment.0 budget sorted within.0 enough)
+    (never_due budgets.ahead budgets.tests budgets.above budgets.finds budgets.reach entries reading.trees.first side reading.sorts.first at.moment.0 budget sorted within.0 enough)
 asks_no_stop budgets entries (Walk from to dir limit budget) reading clock o within sorted h e enough =
     walk_never_stops budgets.walks budgets.reach entries reading.trees.first reading.sorts.first reading.sorts.first.kind clock (window_token (window_given from to) dir) limit budget o sorted
     (window_fits budgets.walks.begin from to dir within.0 within.1) h e enough

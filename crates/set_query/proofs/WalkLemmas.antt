@@ -16,8 +16,8 @@ use Rattle.expr_tree.specs.Sorts.{sort_of_tree}
 use Rattle.expr_tree.specs.Tree.{Rule, Tree, meant_of}
 use Rattle.expr_tree.specs.declared.sorting.Sort.{Sort}
 use Rattle.expr_tree.specs.declared.tree.Kind.{Kind}
-use Rattle.cert_audit.specs.Ample.{IsAmple}
-use Rattle.cert_audit.specs.Lawful.{AreLawful}
+use Rattle.search_core.specs.Ample.{IsAmple}
+use Rattle.search_core.specs.Lawful.{AreLawful}
 use Rattle.walk_core.specs.Laws.{WindowsBegin}
 use Rattle.walk_core.specs.Tokens.{window_token}
 use Rattle.walk_report.specs.Laws.{AmpleReportsNeverStop, EnoughReportsNeverStop, ReportsAreUnique, ReportsExist}

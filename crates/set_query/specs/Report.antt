@@ -1,8 +1,7 @@
 -- What the words and the text ask to be written.
-use Rattle.std.specs.Prelude.{◌≤◌, ◌⊎◌, ℕ, ℤ, Bool, List, Option, Some, None, IfSome, Ok, Err}
-use Rattle.cert_audit.specs.Ample.{IsAboveSearch, IsAmple}
-use Rattle.cert_audit.specs.Due.{IsDue}
-use Rattle.cert_audit.specs.Searches.{test_of}
+use Rattle.std.specs.Prelude.{◌≤◌, ◌⊎◌, ℕ, ℤ, List, Option, Some, None, IfSome, Ok, Err}
+use Rattle.search_core.specs.Ample.{IsAboveSearch, IsAmple, LooksAhead}
+use Rattle.search_core.specs.Due.{IsDue, IsDueInTest, IsTestOf}
 use Rattle.expr_text.specs.Accepted.{IsRead}
 use Rattle.expr_print.specs.Printing.{print_program}
 use Rattle.expr_tree.specs.Members.{is_member}
@@ -34,6 +33,8 @@ use Rattle.span_core.specs.Tokens.{IsFit}
 use Rattle.span_core.specs.declared.answers.Near.{Near}
 use Rattle.span_core.specs.declared.answers.Near.TheVariants as nears
 use Rattle.span_core.specs.declared.answers.Stop.{Stop}
+use Rattle.span_core.specs.declared.answers.Test.{Test}
+use Rattle.span_core.specs.declared.answers.Test.TheVariants as tests
 use Rattle.span_core.specs.declared.answers.Token.{Token}
 use Rattle.stored_pair.specs.Meanings.{Entries, Meaning}
 use Rattle.walk_core.specs.Tokens.{window_token}
@@ -74,8 +75,9 @@ PlacesBy t Current at = PlacesOfCurrent (is_member t) at
 PlacesBy t Closest at = PlacesOfClosest (is_member t) at
 PlacesBy t Contains at = λ dir place. ⊥
 
--- no stop is due at one of them for the budget
+-- no stop is due at one of them for the budget, and none in telling whether a moment is a member
 abbrev pub IsAmpleBy : Tree Meaning → Neighbour → ℤ → ℕ → Type 0
+IsAmpleBy t Contains at budget = (s : Stop) → IsDueInTest t (position_of at) budget s → ⊥
 IsAmpleBy t side at budget = IsAmpleAt (PlacesBy t side at) (IsDue t) budget
 
 -- the status of a neighbour's line
@@ -99,13 +101,23 @@ pub data IsSearched (found : Near → Type 0) (places : Dir → ℤ → Type 0)
   stops : (s : Stop) → IsStopAt places due budget s → ¬ (IsAmpleAt places due budget)
       → IsSearched found places due kind clock budget (told kind clock (nears.Budget s))
 
--- the outcome of the question whether a moment is a member
-pub data IsTested (member : Bool) : Outcome → Type 0 where
-  tested : IsTested member (record { status = 0; bytes = test_line (test_of member) })
+-- the status of the line that tells whether a moment is a member
+abbrev pub status_of_test : Test → ℕ
+status_of_test tests.In = 0
+status_of_test tests.Out = 0
+status_of_test (tests.Budget s) = 3
+
+-- its status and line
+abbrev pub told_test : Test → Outcome
+told_test test = record { status = status_of_test test; bytes = test_line test }
+
+-- the outcome of the question whether a position is a member, or a stop that is due there
+pub data IsTested (t : Tree Meaning) (p : ℤ) (budget : ℕ) : Outcome → Type 0 where
+  tested : (test : Test) → IsTestOf t p budget test → IsTested t p budget (told_test test)
 
 -- the outcome of what a command asks for by a moment
 abbrev pub IsAskedBy : Tree Meaning → Neighbour → Kind → Clock → ℤ → ℕ → Outcome → Type 0
-IsAskedBy t Contains kind clock at budget = IsTested (is_member t (position_of at))
+IsAskedBy t Contains kind clock at budget = IsTested t (position_of at) budget
 IsAskedBy t side kind clock at budget =
     IsSearched (IsFoundBy t side at) (PlacesBy t side at) (IsDue t) kind clock budget
 
@@ -170,8 +182,9 @@ IsInRange (Walk from to dir limit budget) = IsGivenInRange from × IsGivenInRang
 IsInRange (Resume token limit budget) = IsFit token × (1 ≤ budget)
 
 -- the budget is above the candidates of the tree's search from each of the places of what is asked
--- by a moment
+-- by a moment; whether it is a member is told for any budget by a tree that doesn't look back
 abbrev pub IsAbovePlaces : Tree Meaning → Neighbour → ℤ → ℕ → Type 0
+IsAbovePlaces t Contains at budget = LooksAhead t
 IsAbovePlaces t side at budget =
     (dir : Dir) (place : ℤ) → PlacesBy t side at dir place → IsAboveSearch t dir place budget
 

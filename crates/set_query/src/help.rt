@@ -28,11 +28,11 @@ Texts:
   span(start M, before M)     a span; start, end are closed, after, before open
   monthly(days=-1 hours=9)    a rule by fields, from yearly to secondly
   rrule(\"FREQ=DAILY\", M)      a rule of RFC 5545, with M as its DTSTART
+  during(a, 28800)  pairs(a, b)      spans of so many seconds, or from a up to b
+  starts(a)  ends(a)  shift(a, -60)  where runs begin or end; a moved by seconds
   empty()  a | b  a & b  a - b  !a  (a)
 
 Examples:
-  $ echo '{2026-12-24T18:00:00}' | towhipae next at=2026-12-01T00:00:00
-  2026-12-24T18:00:00
   $ echo '!{2003-01-01T00:00:00}' | towhipae next at=2003-01-01T00:00:00
   (2003-01-01T00:00:00 .. inf)
   $ echo 'monthly(days=-1)' | towhipae next at=2024-02-10T00:00:00

@@ -2,7 +2,7 @@
 
 ghost use Rattle.set_query.specs.Laws.{OutcomesAreUnique, OutcomesExist, RefusalsAreAlone};
 
-use cert_audit::{settle_laws, tree_frame_laws};
+use cert_audit::{lawful_laws, settle_laws};
 use expr_text::reading_laws;
 use query_core::{endless_laws, neighbour_laws};
 use query_words::words_laws;
@@ -17,7 +17,7 @@ pub fn outcome_laws()
 {
     words_laws();
     reading_laws();
-    tree_frame_laws();
+    lawful_laws();
     settle_laws();
     endless_laws();
     neighbour_laws();

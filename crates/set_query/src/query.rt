@@ -20,6 +20,7 @@ use moment_core::Steps;
 use outside_core::{Sink, Source};
 use query_core::budget_laws;
 use query_words::{Query, read_words, words_laws};
+use search_core::ample_laws;
 use std::alloc::Global;
 use std::sync::ledger::Ledger;
 use stored_pair::Book;
@@ -84,8 +85,9 @@ fn reply<K: Sink, L: Ledger>(
 /// or the run that holds M or else the nearer neighbour (`closest`): its moment or its bounds,
 /// `none` and the window after which the set repeats without one, or `edge` where there is none in
 /// the calendar range and nothing is said past it. Under `contains` it is `yes` or `no`. It is
-/// `budget`, the position and the node, with status 3, where a search stops because it passed N
-/// candidates or more.
+/// `budget`, a position and a number, with status 3, where a search stops: the search itself, by 0,
+/// because it passed N candidates or more; or durations or pairs, by their number from 1 at the
+/// root, because they passed as many without a member while they looked back.
 ///
 /// Under `walk` and `resume` the lines tell the runs in the window from M to M, cut at its ends, in
 /// the direction, or those that are left from the token, each as it is found. The last line is
@@ -146,6 +148,7 @@ pub fn run<S: Source, K: Sink, L: Ledger>(
 {
     words_laws();
     budget_laws();
+    ample_laws();
     reading_laws();
     tree_laws();
     step_laws();

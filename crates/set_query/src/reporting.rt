@@ -4,7 +4,7 @@ ghost use Rattle.std.specs.Prelude.{◌≡◌, ◌<◌, ◌≤◌};
 ghost use Rattle.set_query.specs.Effects.{IsReported, IsWritten};
 ghost use Rattle.span_core.specs.Answers.{IsCalendarNear};
 ghost use Rattle.set_query.specs.Preparing.{Finds, Reports, Walks};
-ghost use Rattle.set_query.specs.Report.{status_of, told};
+ghost use Rattle.set_query.specs.Report.{status_of, status_of_test, told};
 
 use crate::preparing::Report;
 use crate::searching::Search;
@@ -15,7 +15,7 @@ use moment_core::{Clock, Steps};
 use outside_core::Sink;
 use query_words::Neighbour;
 use report_text::{line_near, line_test};
-use span_core::Near;
+use span_core::{Near, Test};
 use std::sync::ledger::Ledger;
 use walk_core::Walk;
 use walk_report::write_walk;
@@ -27,6 +27,16 @@ fn status_of(near: Near) -> u8
     match near {
         Near::Budget(_) => 3,
         Near::Found(_) | Near::None(_) | Near::Edge => 0,
+    }
+}
+
+fn status_of_test(test: Test) -> u8
+    ensures value { result ≡ status_of_test test }
+    ensures small { result < 5 }
+{
+    match test {
+        Test::Budget(_) => 3,
+        Test::In | Test::Out => 0,
     }
 }
 
@@ -68,8 +78,9 @@ fn write_asked<K: Sink, L: Ledger>(
             write_near(near, kind, clock, sink)
         }
         Neighbour::Contains => {
-            let line = line_test(query_core::contains(plan, at, budget, steps));
-            put(sink, line.bytes(), 0)
+            let test = query_core::contains(plan, at, budget, steps);
+            let line = line_test(test);
+            put(sink, line.bytes(), status_of_test(test))
         }
     }
 }

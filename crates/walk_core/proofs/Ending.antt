@@ -4,10 +4,10 @@ use Rattle.std.proofs.lemmas.Int.{ints}
 use Rattle.moment_core.specs.declared.line.Dir.{Dir}
 use Rattle.moment_core.specs.declared.line.Dir.TheVariants.{Fore, Back}
 use Rattle.moment_core.specs.declared.line.Window.{Window}
+use Rattle.moment_core.proofs.Comparing.{cases_le_z}
 use Rattle.span_core.specs.declared.bounds.Run.{Run}
 use Rattle.run_search.specs.Runs.{IsFirstRun, item_from}
 use Rattle.walk_core.specs.Items.{AreItems}
-use Rattle.walk_core.proofs.Order.{cases_le_z}
 
 -- the members from low to high are the last run up to the end, past p
 pub record IsLastRun (set : ℤ → Bool) (p end low high : ℤ) : Type 0 where

@@ -10,6 +10,8 @@ use Rattle.moment_core.specs.declared.line.Dir.TheVariants.{Fore, Back}
 use Rattle.moment_core.specs.declared.line.Pos.{Pos}
 use Rattle.moment_core.specs.declared.line.TheConstants.{LOW, HIGH}
 use Rattle.moment_core.specs.declared.line.Window.{Window}
+use Rattle.moment_core.proofs.Comparing.{cases_le_z}
+use Rattle.moment_core.proofs.Order.{self_up_to}
 use Rattle.span_core.specs.Bounds.{ends_after, high_bound, low_bound, reaches}
 use Rattle.span_core.specs.Laws.{RunsHoldTheirPositions}
 use Rattle.span_core.specs.Tokens.{IsFit, IsPlaceFit}
@@ -22,8 +24,8 @@ use Rattle.span_core.specs.declared.bounds.Run.{Run}
 use Rattle.stored_pair.specs.Meanings.{Meaning}
 use Rattle.expr_tree.specs.Members.{is_member}
 use Rattle.expr_tree.specs.Tree.{Tree}
-use Rattle.cert_audit.specs.Due.{IsDue}
-use Rattle.cert_audit.specs.Lawful.{AreLawful}
+use Rattle.search_core.specs.Due.{IsDue}
+use Rattle.search_core.specs.Lawful.{AreLawful}
 use Rattle.plan_core.specs.Plans.{window_of}
 use Rattle.run_search.specs.Endless.{HoldsForEver}
 use Rattle.run_search.specs.Laws.{ItemsHoldForEver, NoneIsForEver}
@@ -32,7 +34,7 @@ use Rattle.walk_core.specs.Endless.{HoldsMembers, IsItemForEver}
 use Rattle.walk_core.specs.Items.{IsHonest, begin_at, set_with}
 use Rattle.walk_core.specs.Steps.{IsAtEnd, IsFirstItem, WalksTo}
 use Rattle.walk_core.proofs.Fitting.{place_from, run_in_range}
-use Rattle.walk_core.proofs.Order.{cases_le_z, in_range-from, self_up_to}
+use Rattle.walk_core.proofs.Order.{in_range-from}
 
 module _ (run : RunsHoldTheirPositions) where
   -- what reaches a low bound is not below its position, and so at a high one

@@ -4,11 +4,12 @@ use Rattle.std.proofs.Common.{ℤ, Bool, Option, Some, None}
 use Rattle.moment_core.specs.Line.{IsCalendarPosition}
 use Rattle.moment_core.specs.declared.line.Dir.{Dir}
 use Rattle.moment_core.specs.declared.line.Pos.{Pos}
+use Rattle.moment_core.proofs.Order.{trans_up_to}
 use Rattle.span_core.specs.Tokens.{IsFit, IsPlaceFit}
 use Rattle.span_core.specs.declared.answers.Token.{Token}
 use Rattle.run_search.specs.Runs.{IsFirstRun}
 use Rattle.walk_core.specs.Items.{begin_at}
-use Rattle.walk_core.proofs.Order.{in_range-from, trans_up_to}
+use Rattle.walk_core.proofs.Order.{in_range-from}
 
 -- where what is left begins, and the place, are not before the range's beginning
 begins_from : (dir : Dir) (place end : ℤ) (begun : Option Pos) → IsPlaceFit dir place end begun → IsUpTo dir (begin_at place begun) (range_begin dir)

@@ -8,6 +8,8 @@ use Rattle.moment_core.specs.declared.line.Dir.TheVariants.{Fore, Back}
 use Rattle.moment_core.specs.declared.line.Pos.{Pos}
 use Rattle.moment_core.specs.declared.line.Window.{Window}
 use Rattle.moment_core.proofs.LineLaws.{seen-zero}
+use Rattle.moment_core.proofs.Comparing.{cases_le_z}
+use Rattle.moment_core.proofs.Order.{ahead_up_to, before_or_past, self_up_to, trans_up_to}
 use Rattle.span_core.specs.Answers.{IsFound}
 use Rattle.span_core.specs.Laws.{SearchesAreAnswered}
 use Rattle.span_core.specs.Tokens.{IsFit, IsPlaceFit}
@@ -23,7 +25,7 @@ use Rattle.walk_core.specs.Items.{AreItems, AreLeft, begin_at, set_with, with_ru
 use Rattle.walk_core.specs.Steps.{IsAtEnd, IsFirstItem}
 use Rattle.walk_core.specs.Tokens.{token_at}
 use Rattle.walk_core.proofs.Fitting.{far_from}
-use Rattle.walk_core.proofs.Order.{ahead_up_to, before_or_past, cases_le_z, in_range-from, one_on, past_both, self_up_to, trans_up_to}
+use Rattle.walk_core.proofs.Order.{in_range-from, one_on, past_both}
 use Rattle.walk_core.proofs.Resting.{open_member, past_open, rest_past}
 
 module _ (set : ℤ → Bool) (window : Dir → ℤ → Option Window) (t : Token) (fit : IsFit t) where

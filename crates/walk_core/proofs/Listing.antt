@@ -8,6 +8,7 @@ use Rattle.moment_core.specs.declared.line.Dir.{Dir}
 use Rattle.moment_core.specs.declared.line.Dir.TheVariants.{Fore, Back}
 use Rattle.moment_core.specs.declared.line.Pos.{Pos}
 use Rattle.moment_core.specs.declared.line.Window.{Window}
+use Rattle.moment_core.proofs.Order.{ahead_up_to, before_or_past, in_range-within, not_both_ways, self_up_to, steps_to, trans_up_to}
 use Rattle.span_core.specs.Tokens.{IsFit, IsPlaceFit}
 use Rattle.span_core.specs.declared.answers.Token.{Token}
 use Rattle.span_core.specs.declared.bounds.Run.{Run}
@@ -15,7 +16,7 @@ use Rattle.run_search.specs.Laws.{RunsAreUnique, RunsExist}
 use Rattle.run_search.specs.Runs.{HasNoMember, IsFirstRun, item_from}
 use Rattle.walk_core.specs.Items.{AreItems, AreItemsIn, AreLeft, begin_at, set_with}
 use Rattle.walk_core.proofs.Ending.{items_then_last, last_run}
-use Rattle.walk_core.proofs.Order.{ahead_up_to, before_or_past, in_range-from, in_range-within, not_both_ways, past_both, self_up_to, steps_to, trans_up_to}
+use Rattle.walk_core.proofs.Order.{in_range-from, past_both}
 use Rattle.walk_core.proofs.Resting.{past_run}
 
 abbrev Some_items : (ℤ → Bool) → (Dir → ℤ → Option Window) → Dir → ℤ → ℤ → Type 0

@@ -6,6 +6,7 @@ use Rattle.moment_core.specs.Sets.{ahead, IsUpTo, range_begin}
 use Rattle.moment_core.specs.declared.line.Dir.{Dir}
 use Rattle.moment_core.specs.declared.line.Dir.TheVariants.{Fore, Back}
 use Rattle.moment_core.proofs.LineLaws.{halves}
+use Rattle.moment_core.proofs.Order.{one_on_up_to, self_up_to, trans_up_to}
 use Rattle.span_core.specs.Answers.{IsCalendarItem}
 use Rattle.span_core.specs.Bounds.{IsCalendarRun}
 use Rattle.span_core.specs.Tokens.{IsFit}
@@ -17,8 +18,8 @@ use Rattle.frame_core.specs.Laws.{WindowsLie}
 use Rattle.stored_pair.specs.Meanings.{Meaning}
 use Rattle.expr_tree.specs.Members.{is_member}
 use Rattle.expr_tree.specs.Tree.{Tree}
-use Rattle.cert_audit.specs.Due.{IsDue}
-use Rattle.cert_audit.specs.TreeFrames.{frame_of_tree}
+use Rattle.search_core.specs.Due.{IsDue}
+use Rattle.search_core.specs.TreeFrames.{frame_of_tree}
 use Rattle.plan_core.specs.Plans.{window_of}
 use Rattle.run_search.specs.Laws.{ItemsAreInRange}
 use Rattle.run_search.specs.Places.{IsAmpleAt, IsPlaceWithin}
@@ -27,7 +28,7 @@ use Rattle.walk_core.specs.Items.{set_with}
 use Rattle.walk_core.specs.Steps.{PlacesOfStep, WalksTo}
 use Rattle.walk_core.specs.Walks.{IsNoStop}
 use Rattle.walk_core.proofs.Fitting.{place_from, run_in_range}
-use Rattle.walk_core.proofs.Order.{in_range-from, one_on_up_to, self_up_to, trans_up_to}
+use Rattle.walk_core.proofs.Order.{in_range-from}
 
 moment_in_range : (q : ℤ) → IsCalendarPosition q → IsCalendarMoment (moment_of q)
 moment_in_range q here =

@@ -7,12 +7,13 @@ use Rattle.moment_core.specs.declared.line.Dir.TheVariants.{Fore, Back}
 use Rattle.moment_core.specs.declared.line.Pos.{Pos}
 use Rattle.moment_core.specs.declared.line.Window.{Window}
 use Rattle.moment_core.proofs.Comparing.{int_le-true, le-int_le}
+use Rattle.moment_core.proofs.Order.{before_or_past, not_both_ways, self_up_to, trans_up_to}
 use Rattle.span_core.specs.Tokens.{IsPlaceFit}
 use Rattle.span_core.specs.declared.bounds.Run.{Run}
 use Rattle.run_search.specs.Runs.{IsFirstMember, IsFirstRun}
 use Rattle.walk_core.specs.Found.{GoesOnTo}
 use Rattle.walk_core.specs.Items.{AreItems, begin_at, lies_from, set_with, with_run}
-use Rattle.walk_core.proofs.Order.{before_or_past, not_both_ways, one_on, past_both, self_up_to, trans_up_to}
+use Rattle.walk_core.proofs.Order.{one_on, past_both}
 
 or_without : (a b : Bool) → b ≡ false → (a || b) ≡ a
 or_without true b e = refl

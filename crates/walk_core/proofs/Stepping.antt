@@ -1,13 +1,10 @@
 -- What a step answers, put together from the ends of runs and from stops.
-use Rattle.std.proofs.Common.{◌≡◌, ◌⊎◌, inl, inr, ap, refl, sym, subst, ◌∙◌, arith, ℕ, zero, suc, ℤ, Bool, true, false, not, List, ◌∷◌, Option, Some, None, Result, Ok, Err, IfErr, IfOk, ◌==◌, if◌then◌else◌}
+use Rattle.std.proofs.Common.{◌≡◌, inl, inr, ap, refl, sym, subst, ◌∙◌, arith, ℕ, zero, suc, ℤ, Bool, true, false, List, ◌∷◌, Option, Some, None, Result, Ok, Err, IfErr, IfOk, ◌==◌, if◌then◌else◌}
 use Rattle.std.specs.Ordering.{int_eq}
 use Rattle.std.proofs.lemmas.Int.{ints}
-use Rattle.moment_core.specs.Line.{IsCalendarPosition}
-use Rattle.moment_core.specs.Sets.{ahead, IsNextChange, IsUpTo, range_begin, range_end}
+use Rattle.moment_core.specs.Sets.{ahead, IsUpTo, range_begin}
 use Rattle.moment_core.specs.declared.line.Dir.{Dir}
-use Rattle.moment_core.specs.declared.line.Dir.TheVariants.{Fore, Back}
 use Rattle.moment_core.specs.declared.line.Pos.{Pos}
-use Rattle.moment_core.proofs.LineLaws.{seen-zero}
 use Rattle.span_core.specs.Tokens.{IsFit, IsPlaceFit}
 use Rattle.span_core.specs.declared.answers.Item.TheVariants as items
 use Rattle.span_core.specs.declared.answers.Stop.{Stop}
@@ -17,7 +14,7 @@ use Rattle.span_core.specs.declared.bounds.Run.{Run}
 use Rattle.stored_pair.specs.Meanings.{Meaning}
 use Rattle.expr_tree.specs.Members.{is_member}
 use Rattle.expr_tree.specs.Tree.{Tree}
-use Rattle.cert_audit.specs.Due.{IsDue}
+use Rattle.search_core.specs.Due.{IsDue}
 use Rattle.plan_core.specs.Plans.{window_of}
 use Rattle.run_search.specs.Places.{IsDueBefore, IsPlaceWithin, IsStopFrom}
 use Rattle.run_search.specs.Runs.{IsFirstMember, IsFirstRun, item_from}
@@ -28,7 +25,9 @@ use Rattle.walk_core.specs.Tokens.{token_at, token_past}
 use Rattle.walk_core.specs.declared.steps.Found.{Found}
 use Rattle.walk_core.specs.declared.steps.Found.TheVariants as founds
 use Rattle.walk_core.proofs.Following.{first_then}
-use Rattle.walk_core.proofs.Order.{one_on, one_on_up_to, trans_up_to}
+use Rattle.moment_core.proofs.Order.{before_or_past, not_both_ways, one_on_up_to, one_place, self_up_to, trans_up_to}
+use Rattle.moment_core.proofs.Truths.{true-false}
+use Rattle.walk_core.proofs.Order.{one_on}
 use Rattle.walk_core.proofs.Resting.{first_run, items-past_gap, items-same, open_run, with_members, with_more_members}
 
 -- a fact of an error or a value, and one that follows
@@ -39,15 +38,6 @@ if_err (Err s) f h = f s h
 pub if_ok : {P Q : Pos → Type 0} (r : Result Pos Stop) → ((far : Pos) → P far → Q far) → IfOk r P → IfOk r Q
 if_ok (Ok far) f h = f far h
 if_ok (Err s) f h = tt
-
--- a stop of the search is not past the end
-due_within : (dir : Dir) (end at : ℤ) → IsCalendarPosition at → (end ≡ range_end dir) ⊎ IsUpTo dir end (ahead dir at 1) → IsUpTo dir end at
-due_within dir end at here (inr h) = one_on_up_to dir at end h
-due_within Fore end at here (inl e) = omega (arith, ints, e, here.1)
-due_within Back end at here (inl e) = omega (arith, ints, e, here.0)
-
-stop_within : (tree : Tree Meaning) (dir : Dir) (p end : ℤ) (budget : ℕ) (s : Stop) → IsStopFrom (is_member tree) (IsDue tree) dir p end budget s → s.node ≡ 0 → IsUpTo dir end s.at.0
-stop_within tree dir p end budget s stop e = due_within dir end s.at.0 stop.0.0.1.in_range (stop.0.1 e)
 
 -- a stop from a place of the step
 pub stop_at : (tree : Tree Meaning) (t : Token) (place : ℤ) (budget : ℕ) (s : Stop) → IsUpTo t.dir t.end.0 place → IsPlaceWithin (is_member tree) t.dir 1 t.place.0 place → IsDueBefore t.end.0 (IsDue tree) t.dir place budget s → IsStopOfStep (is_member tree) (IsDue tree) t budget s
@@ -65,23 +55,60 @@ goes_on_past set dir place x end far e r =
       ends = r.ends;
     }
 
--- a stop in the run of the change right past the place of an open run, where that is no member
-pub open_stop_past : (tree : Tree Meaning) (t : Token) (x : ℤ) (budget : ℕ) (s : Stop) → is_member tree t.place.0 ≡ false → x ≡ ahead t.dir t.place.0 1 → IsNextChange (is_member tree) t.dir t.place.0 x × IsCalendarPosition x → IsUpTo t.dir t.end.0 x → IsStopFrom (is_member tree) (IsDue tree) t.dir x t.end.0 budget s → IsOpenStop (is_member tree) (IsDue tree) t budget s
-open_stop_past tree t x budget s gap on (change, here) within h =
+-- past the place of an open run whose place is a member, a stop in that member's run
+pub open_stop_here : (tree : Tree Meaning) (t : Token) (budget : ℕ) (s : Stop) → is_member tree t.place.0 ≡ true → IsUpTo t.dir t.end.0 t.place.0 → IsStopFrom (is_member tree) (IsDue tree) t.dir t.place.0 t.end.0 budget s → IsOpenStop (is_member tree) (IsDue tree) t budget s
+open_stop_here tree t budget s member within h = (
+  stop_at tree t t.place.0 budget s within (inl refl) h.0,
+  λ e. (
+    (h.1 e).1,
+    one_on_up_to t.dir t.place.0 s.at.0 (h.1 e).0,
+    λ q a b. (h.1 e).2 q (one_on_up_to t.dir t.place.0 q a) b ∙ member,
+  ),
+)
+
+-- a stop of a node from the place
+pub open_stop_of_node : (tree : Tree Meaning) (t : Token) (budget : ℕ) (s : Stop) → IsUpTo t.dir t.end.0 t.place.0 → IsDue tree t.dir t.place.0 budget s → (s.node ≡ 0 → ⊥) → IsOpenStop (is_member tree) (IsDue tree) t budget s
+open_stop_of_node tree t budget s within due node =
+    (stop_at tree t t.place.0 budget s within (inl refl) (due, λ e. absurd (node e)), λ e. absurd (node e))
+
+-- a stop in the run that begins right past the place of an open run, where that is no member
+pub open_stop_past : (tree : Tree Meaning) (t : Token) (x : ℤ) (budget : ℕ) (s : Stop) → x ≡ ahead t.dir t.place.0 1 → is_member tree x ≡ true → IsPlaceWithin (is_member tree) t.dir 1 t.place.0 x → IsUpTo t.dir t.end.0 x → IsStopFrom (is_member tree) (IsDue tree) t.dir x t.end.0 budget s → IsOpenStop (is_member tree) (IsDue tree) t budget s
+open_stop_past tree t x budget s on member place within h =
     let P : ℤ → Type 0 = λ z. IsUpTo t.dir z t.place.0 in
-    let Q : ℤ → Type 0 = λ z. (q : ℤ) → IsUpTo t.dir q z → IsUpTo t.dir s.at.0 q → is_member tree q ≡ true in
-    let m : is_member tree x ≡ true = ap (is_member tree) change.1 ∙ change.2.differs ∙ ap not (seen-zero (is_member tree) t.dir t.place.0 ∙ gap) in (
-      stop_at tree t x budget s within (inr (x, change, here, inr refl)) h.0,
+    let Q : ℤ → Type 0 = λ z. (q : ℤ) → IsUpTo t.dir q z → IsUpTo t.dir s.at.0 q → is_member tree q ≡ true in (
+      stop_at tree t x budget s within place h.0,
       λ e. (
-        stop_within tree t.dir x t.end.0 budget s h e,
-        trans_up_to t.dir t.place.0 x s.at.0 (subst P (sym on) (one_on t.dir t.place.0)) (h.1 e).0,
-        subst Q on (λ q a b. (h.1 e).1 q a b ∙ m),
+        (h.1 e).1,
+        trans_up_to t.dir t.place.0 x s.at.0 (subst P (sym on) (one_on t.dir t.place.0)) (one_on_up_to t.dir x s.at.0 (h.1 e).0),
+        subst Q on (λ q a b. (h.1 e).2 q a b ∙ member),
       ),
     )
 
--- two positions that a test tells are the same
+-- an open run ends at its place where the position right past it is no member
+pub ends_here : (set : ℤ → Bool) (dir : Dir) (place end : ℤ) → IsUpTo dir end place → set (ahead dir place 1) ≡ false → GoesOnTo set dir place end place
+ends_here set dir place end within gap = record {
+  some = self_up_to dir place;
+  members = λ q h k. absurd (not_both_ways dir q place k h);
+  within = within;
+  ends = inr gap;
+}
+
+-- so it is where the first member past a gap lies beyond that position
+pub gap_before : (set : ℤ → Bool) (dir : Dir) (place end near : ℤ) → set place ≡ false → IsFirstMember set dir place end near → (near ≡ ahead dir place 1 → ⊥) → set (ahead dir place 1) ≡ false
+gap_before set dir place end near gap first apart = elim (before_or_past dir near place) [
+  | inl h ↦ absurd (let same : near ≡ place = one_place dir near place h first.from in true-false (set place) (ap set (sym same) ∙ first.member) gap)
+  | inr h ↦ elim (before_or_past dir near (ahead dir place 1)) [
+    | inl k ↦ absurd (apart (one_place dir near (ahead dir place 1) k h))
+    | inr k ↦ first.none_before (ahead dir place 1) (one_on dir place) k
+  ]
+]
+
+-- two positions that a test tells are the same, or aren't
 pub same_if_equal : (b : Bool) (p q : ℤ) → b ≡ int_eq p q → b ≡ true → p ≡ q
 same_if_equal b p q e t = let same : int_eq p q ≡ true = sym e ∙ t in grind (arith, ints)
+
+pub apart_if_not : (b : Bool) (p q : ℤ) → b ≡ int_eq p q → b ≡ false → p ≡ q → ⊥
+apart_if_not b p q e t same = let apart : int_eq p q ≡ false = sym e ∙ t in grind (arith, ints)
 
 -- what holds of the token of a stop
 by_node : (P : Token → Type 0) (n : ℕ) (a b : Token) → (n ≡ 0 → P a) → ((n ≡ 0 → ⊥) → P b) → P (if n == 0 then a else b)
@@ -158,7 +185,7 @@ module _ (tree : Tree Meaning) (budget : ℕ) (t : Token) (found : Found) (next 
       stopped_by s (Some first)
       (λ z. subst R (sym e) (λ runs h. items-past_gap (is_member tree) (window_of tree) t.dir t.place.0 first.0 t.end.0 runs f.from f.none_before
       (items-same (with_run (is_member tree) t.dir first.0 s.at.0) (is_member tree) (window_of tree) t.dir first.0 t.end.0 runs
-      (λ q a. with_members (is_member tree) t.dir first.0 s.at.0 q (λ r c d. (stop.1 z).1 r c d ∙ f.member)) h)))
+      (λ q a. with_members (is_member tree) t.dir first.0 s.at.0 q (λ r c d. (stop.1 z).2 r c d ∙ f.member)) h)))
       (stop_at tree t first.0 budget s f.within place stop.0) is on
 
   pub fit_run_stop : (first : Pos) (s : Stop) → t.begun ≡ None → IsFit t → IsFirstMember (is_member tree) t.dir t.place.0 t.end.0 first.0 → IsStopFrom (is_member tree) (IsDue tree) t.dir first.0 t.end.0 budget s → next ≡ token_past t s (Some first) → IsFit next
@@ -166,20 +193,20 @@ module _ (tree : Tree Meaning) (budget : ℕ) (t : Token) (found : Found) (next 
       let F : Option Pos → Type 0 = λ b. IsPlaceFit t.dir t.place.0 t.end.0 b in
       let within = subst F e fit.1 in
       fit_stop s (Some first) fit
-      (λ z. (trans_up_to t.dir (range_begin t.dir) t.place.0 first.0 within.0 f.from, (stop.1 z).0, stop_within tree t.dir first.0 t.end.0 budget s stop z)) on
+      (λ z. (trans_up_to t.dir (range_begin t.dir) t.place.0 first.0 within.0 f.from, one_on_up_to t.dir first.0 s.at.0 (stop.1 z).0, (stop.1 z).1)) on
 
   pub honest_run : (first : Pos) (s : Stop) → IsFirstMember (is_member tree) t.dir t.place.0 t.end.0 first.0 → IsStopFrom (is_member tree) (IsDue tree) t.dir first.0 t.end.0 budget s → next ≡ token_past t s (Some first) → Honest t → Honest next
   honest_run first s f stop on honest =
       by_stop Honest t next s (Some first) on
-      (λ z q. with_members (is_member tree) t.dir first.0 s.at.0 q (λ r a b. (stop.1 z).1 r a b ∙ f.member)) honest
+      (λ z q. with_members (is_member tree) t.dir first.0 s.at.0 q (λ r a b. (stop.1 z).2 r a b ∙ f.member)) honest
 
   -- a stop past a gap
   pub gap_stopped : (s : Stop) → t.begun ≡ None → IsUpTo t.dir t.end.0 t.place.0 → (s.node ≡ 0 → is_member tree t.place.0 ≡ false) × IsStopFrom (is_member tree) (IsDue tree) t.dir t.place.0 t.end.0 budget s → found ≡ founds.Stopped s → next ≡ token_past t s None → Steps_to found
   gap_stopped s e within (gap, stop) is on =
       let R : Option Pos → Type 0 = λ b. (runs : List Run) → AreItems (is_member tree) (window_of tree) t.dir s.at.0 t.end.0 runs → AreItems (set_with (is_member tree) t.dir t.place.0 b) (window_of tree) t.dir (begin_at t.place.0 b) t.end.0 runs in
       stopped_by s None
-      (λ z. subst R (sym e) (λ runs h. items-past_gap (is_member tree) (window_of tree) t.dir t.place.0 s.at.0 t.end.0 runs (stop.1 z).0
-      (λ q a b. (stop.1 z).1 q a (one_on_up_to t.dir q s.at.0 b) ∙ gap z) h))
+      (λ z. subst R (sym e) (λ runs h. items-past_gap (is_member tree) (window_of tree) t.dir t.place.0 s.at.0 t.end.0 runs (one_on_up_to t.dir t.place.0 s.at.0 (stop.1 z).0)
+      (λ q a b. (stop.1 z).2 q a (one_on_up_to t.dir q s.at.0 b) ∙ gap z) h))
       (stop_at tree t t.place.0 budget s within (inl refl) stop.0) is on
 
   pub honest_gap : (s : Stop) → next ≡ token_past t s None → Honest t → Honest next
@@ -191,8 +218,8 @@ module _ (tree : Tree Meaning) (budget : ℕ) (t : Token) (found : Found) (next 
       let within = subst F e fit.1 in
       fit_stop s None fit
       (λ z. (
-        trans_up_to t.dir (range_begin t.dir) t.place.0 s.at.0 within.0 (stop.1 z).0,
-        trans_up_to t.dir s.at.0 t.end.0 (ahead t.dir t.end.0 1) (stop_within tree t.dir t.place.0 t.end.0 budget s stop z) (one_on t.dir t.end.0),
+        trans_up_to t.dir (range_begin t.dir) t.place.0 s.at.0 within.0 (one_on_up_to t.dir t.place.0 s.at.0 (stop.1 z).0),
+        trans_up_to t.dir s.at.0 t.end.0 (ahead t.dir t.end.0 1) (stop.1 z).1 (one_on t.dir t.end.0),
       )) on
 
 -- a step of a walk by what was found from its token

@@ -8,6 +8,8 @@ use Rattle.moment_core.specs.declared.line.Dir.{Dir}
 use Rattle.moment_core.specs.declared.line.Dir.TheVariants.{Fore, Back}
 use Rattle.moment_core.specs.declared.line.Pos.{Pos}
 use Rattle.moment_core.specs.declared.line.Window.{Window}
+use Rattle.moment_core.proofs.Comparing.{cases_le_z}
+use Rattle.moment_core.proofs.Order.{not_both_ways, trans_up_to}
 use Rattle.span_core.specs.Tokens.{IsFit}
 use Rattle.span_core.specs.declared.answers.Stop.{Stop}
 use Rattle.span_core.specs.declared.answers.Token.{Token}
@@ -23,7 +25,6 @@ use Rattle.walk_core.specs.declared.steps.Found.{Found}
 use Rattle.walk_core.specs.declared.steps.Found.TheVariants as founds
 use Rattle.walk_core.proofs.Ending.{items_then_last, last_run}
 use Rattle.walk_core.proofs.Listing.{none_past}
-use Rattle.walk_core.proofs.Order.{cases_le_z, not_both_ways, trans_up_to}
 
 -- the token of a window with its ends in order
 abbrev token_of : Window → Dir → Token

@@ -9,7 +9,7 @@ use Rattle.span_core.specs.declared.bounds.Run.{Run}
 use Rattle.stored_pair.specs.Meanings.{Meaning}
 use Rattle.expr_tree.specs.Members.{is_member}
 use Rattle.expr_tree.specs.Tree.{Tree}
-use Rattle.cert_audit.specs.Due.{IsDue}
+use Rattle.search_core.specs.Due.{IsDue}
 use Rattle.plan_core.specs.Plans.{meant_of_plan}
 use Rattle.walk_core.specs.Steps.{IsStopOfStep}
 use Rattle.walk_core.specs.Tokens.{window_token}

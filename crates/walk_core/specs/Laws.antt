@@ -14,8 +14,8 @@ use Rattle.stored_pair.specs.Meanings.{Meaning}
 use Rattle.expr_tree.specs.Members.{is_member}
 use Rattle.expr_tree.specs.Sorts.{reach_of}
 use Rattle.expr_tree.specs.Tree.{Tree}
-use Rattle.cert_audit.specs.Ample.{IsAboveSearch, IsAmple}
-use Rattle.cert_audit.specs.Lawful.{AreLawful}
+use Rattle.search_core.specs.Ample.{IsAboveSearch, IsAmple}
+use Rattle.search_core.specs.Lawful.{AreLawful}
 use Rattle.walk_core.specs.Endless.{IsItemForEver}
 use Rattle.walk_core.specs.Items.{AreItemsIn, AreLeft, IsHonest}
 use Rattle.walk_core.specs.Steps.{IsAtEnd, IsFirstItem, PlacesOfStep}
@@ -94,8 +94,8 @@ EnoughSteps =
     → IsAboveSearch tree dir place budget)
     → IsAmpleForStep tree t budget
 
--- the token of a window of the calendar range fits, no run is open there, and the window's items are
--- left from it
+-- the token of a window of the calendar range fits, no run is open there, and the window's items
+-- are left from it
 abbrev pub WindowsBegin : Type 0
 WindowsBegin =
     (set : ℤ → Bool) (window : Dir → ℤ → Option Window) (w : Window) (dir : Dir)

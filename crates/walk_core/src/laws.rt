@@ -1,7 +1,7 @@
 ghost use Rattle.walk_core.specs.Laws.{AmpleSteps, EndsHaveReasons, EnoughSteps, FirstItemsLead, ItemsAreLeft, ItemsAreOneList, ItemsFollow, ItemsReverse, LeftIsOneList, StepsHoldForEver, WindowsBegin, WindowsHaveItems};
 
-use cert_audit::ample_laws;
 use run_search::{endless_laws, run_laws};
+use search_core::ample_laws;
 use span_core::answer_laws;
 
 /// From each token that fits a list of items is left, and no second one: a first item and those

@@ -12,8 +12,8 @@ ghost use Rattle.walk_core.specs.declared.steps.Found.TheVariants.{Given, Stoppe
 
 use moment_core::{Dir, Pos, Steps};
 use plan_core::Plan;
-use run_search::{Begun, first_of_run, holds, item_from, last_of_run};
-use span_core::{Answer, Run, Stop, Token, Why, is_up_to, one_on};
+use run_search::{Begun, first_of_run, first_past_gap, holds, item_from, last_of_run};
+use span_core::{Run, Stop, Token, Why, is_up_to, one_on};
 use std::sync::ledger::Ledger;
 
 /// The next item, or why none is left, or that a search stopped.
@@ -154,17 +154,16 @@ fn last_past<L: Ledger>(
     ensures same { meant_of_plan plan.new ≡ meant_of_plan plan.old }
     ensures counted { steps.old ≤ steps.new }
 {
-    match plan.change(t.place, t.dir, budget, steps) {
-        Answer::At(q) => {
-            if q == next {
-                last_of_run(plan, t.dir, q, t.end, budget, steps)
+    match first_past_gap(plan, t.dir, t.place, t.end, budget, steps) {
+        Begun::At(first) => {
+            if first == next {
+                last_of_run(plan, t.dir, first, t.end, budget, steps)
             } else {
                 Ok(t.place)
             }
         }
-        Answer::None(_) => Ok(t.place),
-        Answer::Edge => Ok(t.place),
-        Answer::Budget(stop) => {
+        Begun::Done(_) => Ok(t.place),
+        Begun::Stopped(stop) => {
             if stop.node == 0 {
                 Ok(t.place)
             } else {

@@ -4,7 +4,7 @@ ghost use Rattle.span_core.specs.Answers.{IsCalendarItem};
 ghost use Rattle.span_core.specs.Tokens.{IsFit};
 ghost use Rattle.span_core.specs.declared.answers.Item.TheVariants.{Run as Given};
 ghost use Rattle.span_core.specs.declared.bounds.Run.{Run};
-ghost use Rattle.cert_audit.specs.Lawful.{AreLawful};
+ghost use Rattle.search_core.specs.Lawful.{AreLawful};
 ghost use Rattle.plan_core.specs.Plans.{meant_of_plan};
 ghost use Rattle.walk_core.specs.Endless.{IsItemForEver};
 ghost use Rattle.walk_core.specs.Items.{IsHonest};

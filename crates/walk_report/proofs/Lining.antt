@@ -9,9 +9,8 @@ use Rattle.span_core.specs.declared.answers.Item.{Item}
 use Rattle.span_core.specs.declared.answers.Item.TheVariants as items
 use Rattle.span_core.specs.declared.answers.Stop.{Stop}
 use Rattle.span_core.specs.declared.answers.Token.{Token}
-use Rattle.span_core.specs.declared.bounds.Run.{Run}
 use Rattle.expr_tree.specs.Members.{is_member}
-use Rattle.cert_audit.specs.Due.{IsDue}
+use Rattle.search_core.specs.Due.{IsDue}
 use Rattle.plan_core.specs.Plans.{window_of}
 use Rattle.report_text.specs.Items.{item_line, more_line}
 use Rattle.walk_core.specs.Steps.{WalksTo}

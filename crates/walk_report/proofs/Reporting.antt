@@ -1,5 +1,5 @@
 -- Reports put together from their front, and that there is one from each token.
-use Rattle.std.proofs.Common.{◌≡◌, ap, refl, sym, subst, ◌∙◌, arith, ℕ, zero, suc, ◌+◌, ◌<◌, List, [], ◌∷◌, ◌++◌, length}
+use Rattle.std.proofs.Common.{◌≡◌, ap, refl, sym, subst, ◌∙◌, arith, ℕ, zero, suc, ◌<◌, List, [], ◌∷◌, ◌++◌, length}
 use Rattle.std.proofs.lemmas.List.{append_assoc}
 use Rattle.span_core.specs.declared.answers.Item.TheVariants as items
 use Rattle.span_core.specs.declared.answers.Token.{Token}
@@ -11,7 +11,7 @@ use Rattle.expr_tree.specs.Tree.{Tree}
 use Rattle.plan_core.specs.Plans.{window_of}
 use Rattle.report_text.specs.Items.{item_line, more_line}
 use Rattle.span_core.specs.Tokens.{IsFit}
-use Rattle.cert_audit.specs.Lawful.{AreLawful}
+use Rattle.search_core.specs.Lawful.{AreLawful}
 use Rattle.walk_core.specs.Laws.{AmpleSteps, EndsHaveReasons, EnoughSteps, FirstItemsLead, ItemsAreLeft, ItemsFollow, StepsHoldForEver, WindowsBegin}
 use Rattle.walk_core.specs.Tokens.{window_token}
 use Rattle.walk_core.specs.Walks.{AreLeftOf, IsAmpleForStep}

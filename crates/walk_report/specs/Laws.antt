@@ -10,8 +10,8 @@ use Rattle.span_core.specs.declared.bounds.Run.{Run}
 use Rattle.stored_pair.specs.Meanings.{Meaning}
 use Rattle.expr_tree.specs.Sorts.{reach_of}
 use Rattle.expr_tree.specs.Tree.{Tree}
-use Rattle.cert_audit.specs.Ample.{IsAmple}
-use Rattle.cert_audit.specs.Lawful.{AreLawful}
+use Rattle.search_core.specs.Ample.{IsAmple}
+use Rattle.search_core.specs.Lawful.{AreLawful}
 use Rattle.walk_core.specs.Tokens.{window_token}
 use Rattle.walk_core.specs.Walks.{AreItemsOf, AreLeftOf}
 use Rattle.walk_report.specs.Report.{AreFirstItems, IsAboveWalk, IsReport, Telling}

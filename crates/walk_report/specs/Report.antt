@@ -14,8 +14,8 @@ use Rattle.stored_pair.specs.Meanings.{Meaning}
 use Rattle.expr_tree.specs.Members.{is_member}
 use Rattle.expr_tree.specs.Tree.{Tree}
 use Rattle.expr_tree.specs.declared.tree.Kind.{Kind}
-use Rattle.cert_audit.specs.Ample.{IsAboveSearch}
-use Rattle.cert_audit.specs.Due.{IsDue}
+use Rattle.search_core.specs.Ample.{IsAboveSearch}
+use Rattle.search_core.specs.Due.{IsDue}
 use Rattle.plan_core.specs.Plans.{window_of}
 use Rattle.walk_core.specs.Endless.{IsItemForEver}
 use Rattle.walk_core.specs.Items.{IsHonest}

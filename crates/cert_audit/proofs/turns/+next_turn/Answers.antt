@@ -1,17 +1,155 @@
+use Rattle.std.proofs.Common.{◌-ℤ◌, arith, refl, subst, sym}
 use Rattle.moment_core.specs.Joining.{joined}
+use Rattle.moment_core.specs.Line.{position_of}
 use Rattle.expr_tree.specs.Members.{is_member}
-use Rattle.cert_audit.specs.Candidates.{is_candidate}
+use Rattle.expr_tree.specs.Sorts.{reach_of}
+use Rattle.expr_tree.specs.Sound.{IsSound}
+use Rattle.expr_tree.specs.Tree.{During, Pairs}
+use Rattle.search_core.specs.Candidates.{is_candidate}
 use Rattle.cert_audit.specs.Nodes.{meant_of_node}
+use Rattle.cert_audit.specs.Room.{HasRoom}
+use Rattle.cert_audit.proofs.Edges.{edge_counts, edge_none, edge_small, edge_some, ends_edge, starts_edge}
+use Rattle.cert_audit.proofs.Moving.{Follows-during, Follows-pairs, moved_counts, moved_none, moved_some}
+use Rattle.cert_audit.proofs.Rooms.{room_earlier, room_small, room_turn}
+use Rattle.cert_audit.proofs.Turning.{Follows-op}
 use Rattle.cert_audit.proofs.turns.+next_turn.Goals as goal
 
-pub returns-in-Joined-clause-turn : goal.returns-in-Joined-clause-turn
-returns-in-Joined-clause-turn g t c =
-    rw (c.in-Joined.is, ← c.deref.ensures, ← c.deref-in-Joined.ensures)
-    (c.nearer.ensures.turn (is_member (meant_of_node c.deref.result.now)) (is_member (meant_of_node c.deref-in-Joined.result.now))
-    (joined c.in-Joined.field-0) c.args.p.0 c.args.end.0 c.next_turn-near.ensures.turn c.next_turn-other.ensures.turn)
+pub edge_turn-returns-in-Some-clause-turn : goal.edge_turn-returns-in-Some-clause-turn
+edge_turn-returns-in-Some-clause-turn g t c = λ h edge.
+    let a = meant_of_node c.args.a.now in
+    rw c.edge_up_to.ensures
+    (edge_some (is_member a) h c.args.dir c.args.p.0 c.open_before.result.0 c.next.result.0
+    c.in-Some.turn c.edge_at.result c.args.end edge
+    c.open_before.ensures c.edge_at.ensures c.in-Some.ensures.turn)
 
-pub returns-in-Joined-clause-counts : goal.returns-in-Joined-clause-counts
-returns-in-Joined-clause-counts g t c =
+pub edge_turn-returns-in-Some-clause-counts : goal.edge_turn-returns-in-Some-clause-counts
+edge_turn-returns-in-Some-clause-counts g t c =
+    let a = meant_of_node c.args.a.now in
+    rw c.edge_up_to.ensures
+    (edge_counts (is_candidate a) c.args.dir c.args.p.0 c.in-Some.turn c.edge_at.result c.args.end
+    c.edge_at.ensures c.in-Some.ensures.counts)
+
+pub edge_turn-returns-in-None-clause-turn : goal.edge_turn-returns-in-None-clause-turn
+edge_turn-returns-in-None-clause-turn g t c = λ h edge.
+    let a = meant_of_node c.args.a.now in
+    edge_none (is_member a) h c.args.dir c.args.p.0 c.open_before.result.0 c.args.end.0
+    c.next.result.0 edge
+    c.open_before.ensures c.next.ensures c.in-None.ensures.turn
+
+pub shifted_turn-returns-in-Some-clause-turn : goal.shifted_turn-returns-in-Some-clause-turn
+shifted_turn-returns-in-Some-clause-turn g t c =
+    let a = meant_of_node c.args.a.now in
+    moved_some (is_member a) c.args.dir c.args.p.0 c.args.end.0 c.args.seconds.0 c.in-Some.turn
+    (record { place = c.later.result; counts = c.in-Some.turn.counts }) c.later.ensures
+    (rw (c.earlier.ensures, c.earlier-2.ensures) at c.in-Some.ensures.turn)
+
+pub shifted_turn-returns-in-Some-clause-counts : goal.shifted_turn-returns-in-Some-clause-counts
+shifted_turn-returns-in-Some-clause-counts g t c =
+    let a = meant_of_node c.args.a.now in
+    moved_counts (is_candidate a) c.args.dir c.args.seconds.0 c.in-Some.turn
+    (record { place = c.later.result; counts = c.in-Some.turn.counts }) c.later.ensures refl
+    c.in-Some.ensures.counts
+
+pub shifted_turn-returns-in-None-clause-turn : goal.shifted_turn-returns-in-None-clause-turn
+shifted_turn-returns-in-None-clause-turn g t c =
+    let a = meant_of_node c.args.a.now in
+    moved_none (is_member a) c.args.dir c.args.p.0 c.args.end.0 c.args.seconds.0
+    (rw (c.earlier.ensures, c.earlier-2.ensures) at c.in-None.ensures.turn)
+
+pub either_turn-returns-clause-turn : goal.either_turn-returns-clause-turn
+either_turn-returns-clause-turn g t c = λ h follows.
+    let a = meant_of_node c.args.a.now in
+    let b = meant_of_node c.args.b.now in
+    c.nearer.ensures.turn (is_member a) (is_member b) h c.args.p.0 c.args.end.0 follows
+    c.next_turn-near.ensures.turn c.next_turn-other.ensures.turn
+
+pub either_turn-returns-clause-counts : goal.either_turn-returns-clause-counts
+either_turn-returns-clause-counts g t c =
+    c.nearer.ensures.counts (is_candidate (meant_of_node c.args.a.now))
+    (is_candidate (meant_of_node c.args.b.now))
+    c.next_turn-near.ensures.counts c.next_turn-other.ensures.counts
+
+pub next_turn-returns-in-Joined-clause-turn : goal.next_turn-returns-in-Joined-clause-turn
+next_turn-returns-in-Joined-clause-turn g t c =
+    let a = meant_of_node c.deref.result.now in
+    let b = meant_of_node c.deref-in-Joined.result.now in
     rw (c.in-Joined.is, ← c.deref.ensures, ← c.deref-in-Joined.ensures)
-    (c.nearer.ensures.counts (is_candidate (meant_of_node c.deref.result.now)) (is_candidate (meant_of_node c.deref-in-Joined.result.now))
-    c.next_turn-near.ensures.counts c.next_turn-other.ensures.counts)
+    (c.either_turn.ensures.turn (λ q. joined c.in-Joined.field-0 (is_member a q) (is_member b q))
+    (Follows-op (joined c.in-Joined.field-0) (is_member a) (is_member b) c.args.dir c.args.p.0))
+
+pub next_turn-returns-in-During-clause-turn : goal.next_turn-returns-in-During-clause-turn
+next_turn-returns-in-During-clause-turn g t c =
+    let a = meant_of_node c.deref-in-During.result.now in
+    let d = c.in-During.seconds.0 in
+    let sound : IsSound (During a d) =
+    rw (c.deref-in-During.ensures) (rw (c.in-During.is) at c.requires.sound) in
+    rw (c.in-During.is, ← c.deref-in-During.ensures)
+    (c.nearer.ensures.turn (is_member a) (λ q. is_member a (q -ℤ position_of d))
+    (is_member (During a d)) c.args.p.0 c.args.end.0
+    (Follows-during c.member_laws.ensures.during (is_member a) d c.args.dir c.args.p.0 sound.1)
+    c.next_turn-near.ensures.turn (rw (c.deref-in-During.ensures, ← c.deref-in-During-2.ensures)
+    c.shifted_turn-other.ensures.turn))
+
+pub next_turn-returns-in-Pairs-clause-turn : goal.next_turn-returns-in-Pairs-clause-turn
+next_turn-returns-in-Pairs-clause-turn g t c =
+    let a = meant_of_node c.deref-in-Pairs.result.now in
+    let b = meant_of_node c.deref-in-Pairs-2.result.now in
+    let sound : IsSound (Pairs a b) =
+    rw (c.deref-in-Pairs.ensures, c.deref-in-Pairs-2.ensures) (rw (c.in-Pairs.is) at
+    c.requires.sound) in
+    rw (c.in-Pairs.is, ← c.deref-in-Pairs.ensures, ← c.deref-in-Pairs-2.ensures)
+    (c.either_turn-in-Pairs.ensures.turn (is_member (Pairs a b))
+    (Follows-pairs c.member_laws.ensures.pairs (is_member a) (is_member b) c.args.dir c.args.p.0
+    sound.1.0 sound.1.1))
+
+pub next_turn-returns-in-Starts-clause-turn : goal.next_turn-returns-in-Starts-clause-turn
+next_turn-returns-in-Starts-clause-turn g t c =
+    let a = meant_of_node c.deref-in-Starts.result.now in
+    rw (c.in-Starts.is, ← c.deref-in-Starts.ensures) (c.edge_turn.ensures.turn _
+    (starts_edge (is_member a)))
+
+pub next_turn-returns-in-Ends-clause-turn : goal.next_turn-returns-in-Ends-clause-turn
+next_turn-returns-in-Ends-clause-turn g t c =
+    let a = meant_of_node c.deref-in-Ends.result.now in
+    rw (c.in-Ends.is, ← c.deref-in-Ends.ensures) (c.edge_turn-in-Ends.ensures.turn _
+    (ends_edge (is_member a)))
+
+pub edge_turn-edge_at-requires-clause-q : goal.edge_turn-edge_at-requires-clause-q
+edge_turn-edge_at-requires-clause-q g t c =
+    let a = meant_of_node c.args.a.now in
+    edge_small (is_member a) c.args.dir c.args.p.0 c.open_before.result.0 c.args.end.0
+    c.next.result.0 (reach_of a) c.in-Some.turn
+    c.requires.here c.requires.there c.open_before.ensures c.next.ensures c.in-Some.ensures.turn
+
+pub next_turn-returns-in-During-clause-counts : goal.next_turn-returns-in-During-clause-counts
+next_turn-returns-in-During-clause-counts g t c =
+    let a = meant_of_node c.deref-in-During.result.now in
+    let d = c.in-During.seconds.0 in
+    rw (c.in-During.is, ← c.deref-in-During.ensures)
+    (c.nearer.ensures.counts (is_candidate a) (λ q. is_candidate a (q -ℤ position_of d))
+    c.next_turn-near.ensures.counts (rw (c.deref-in-During.ensures, ← c.deref-in-During-2.ensures)
+    c.shifted_turn-other.ensures.counts))
+
+pub shifted_turn-next_turn-requires : goal.shifted_turn-next_turn-requires
+shifted_turn-next_turn-requires g t c = λ κs alive.
+    let n = reach_of (meant_of_node c.args.a.now) in
+    let here : HasRoom n c.earlier.result.0 =
+    subst (HasRoom n) (sym c.earlier.ensures) (room_earlier n c.args.seconds.0 c.args.p.0
+    c.requires.here) in
+    let there : HasRoom n c.earlier-2.result.0 =
+    subst (HasRoom n) (sym c.earlier-2.ensures) (room_earlier n c.args.seconds.0 c.args.end.0
+    c.requires.there) in
+    (omega (arith, c.decreases), (alive, (c.requires.sound, (here, there))))
+
+pub shifted_turn-later-requires-clause-p : goal.shifted_turn-later-requires-clause-p
+shifted_turn-later-requires-clause-p g t c =
+    let a = meant_of_node c.args.a.now in
+    let n = reach_of a in
+    let here : HasRoom n c.earlier.result.0 =
+    subst (HasRoom n) (sym c.earlier.ensures) (room_earlier n c.args.seconds.0 c.args.p.0
+    c.requires.here) in
+    let there : HasRoom n c.earlier-2.result.0 =
+    subst (HasRoom n) (sym c.earlier-2.ensures) (room_earlier n c.args.seconds.0 c.args.end.0
+    c.requires.there) in
+    room_small n c.in-Some.turn.place.0 (room_turn (is_member a) c.args.dir c.earlier.result.0
+    c.earlier-2.result.0 c.in-Some.turn n here there c.in-Some.ensures.turn)

@@ -6,16 +6,25 @@ use Rattle.expr_grammar.proofs.Loop.{GoesOn}
 use Rattle.expr_grammar.proofs.parser.+expression.Given as goal
 
 abbrev pub decreases-atom : goal.decreases-atom
-decreases-atom l = 8 * l.depth
+decreases-atom l = 12 * l.depth
 
 abbrev pub decreases-operand : goal.decreases-operand
-decreases-operand l = 8 * l.depth + 2 * rank l.op + 1
+decreases-operand l = 12 * l.depth + 2 * rank l.op + 1
 
 abbrev pub decreases-chain : goal.decreases-chain
-decreases-chain l = 8 * l.depth + 2 * rank l.op + 2
+decreases-chain l = 12 * l.depth + 2 * rank l.op + 2
+
+abbrev pub decreases-pairs_end : goal.decreases-pairs_end
+decreases-pairs_end l = 12 * l.depth + 7
+
+abbrev pub decreases-call_end : goal.decreases-call_end
+decreases-call_end l = 12 * l.depth + 8
+
+abbrev pub decreases-call : goal.decreases-call
+decreases-call l = 12 * l.depth + 9
 
 abbrev pub decreases-nested : goal.decreases-nested
-decreases-nested l = 8 * l.depth + 7
+decreases-nested l = 12 * l.depth + 10
 
 abbrev pub invariant-chain-operands : goal.invariant-chain-operands
 invariant-chain-operands l = record {

@@ -21,27 +21,28 @@ returns-in_err-span-in-Span-clause-made c =
     rw is (vacant_within c.left.steps.items (form_of c.left.left.now) (form_of c.args.tree.now) (places_of c.left.left.now) (places_of c.args.tree.now)
     (fault_in c.in_err-span-in-Span.field-0.0) h.whole h.whole_places (rw c.in-Span.is c.in_err-span-in-Span.ensures.made))
 
-pub left-preserved-in-Joined : goal.left-preserved-in-Joined
-left-preserved-in-Joined c =
+pub left-preserved-in-Binary : goal.left-preserved-in-Binary
+left-preserved-in-Binary c =
     let h = c.left.invariant in
-    let step = steps.Before c.in-Joined.op c.deref-in-Joined.result in
+    let step = steps.First c.in-Binary.op c.deref-in-Binary.result in
     let pushed : c.push.new.self.items ≡ c.left.steps.items ++ step ∷ [] = search rules in
-    let left = c.in-Joined.a.value in
+    let left = c.in-Binary.a.value in
     record {
-      whole = rw (pushed, c.deref-left.ensures, form_pushed c.left.steps.items step (form_of left), c.deref-in-Joined.ensures) (rw c.in-Joined.is at h.whole);
-      whole_places = rw (pushed, c.deref-left.ensures, places_pushed c.left.steps.items step (places_of left), c.deref-in-Joined.ensures) (rw c.in-Joined.is at h.whole_places);
-      dated = rw c.deref-left.ensures (rw c.in-Joined.is at h.dated).0;
+      whole = rw (pushed, c.deref-left.ensures, form_pushed c.left.steps.items step (form_of left), c.deref-in-Binary.ensures) (rw c.in-Binary.is at h.whole);
+      whole_places = rw (pushed, c.deref-left.ensures, places_pushed c.left.steps.items step (places_of left), c.deref-in-Binary.ensures) (rw c.in-Binary.is at h.whole_places);
+      dated = rw c.deref-left.ensures (rw c.in-Binary.is at h.dated).0;
     }
 
 pub left-preserved : goal.left-preserved
 left-preserved c =
     let h = c.left.invariant in
-    let pushed : c.push-in-Inverse.new.self.items ≡ c.left.steps.items ++ steps.Behind ∷ [] = search rules in
-    let inner = c.in-Inverse.a.value in
+    let step = steps.Inner c.in-Unary.op in
+    let pushed : c.push-in-Unary.new.self.items ≡ c.left.steps.items ++ step ∷ [] = search rules in
+    let inner = c.in-Unary.a.value in
     record {
-      whole = rw (pushed, c.deref-left-in-Inverse.ensures, form_pushed c.left.steps.items steps.Behind (form_of inner)) (rw c.in-Inverse.is at h.whole);
-      whole_places = rw (pushed, c.deref-left-in-Inverse.ensures, places_pushed c.left.steps.items steps.Behind (places_of inner)) (rw c.in-Inverse.is at h.whole_places);
-      dated = rw c.deref-left-in-Inverse.ensures (rw c.in-Inverse.is at h.dated);
+      whole = rw (pushed, c.deref-left-in-Unary.ensures, form_pushed c.left.steps.items step (form_of inner)) (rw c.in-Unary.is at h.whole);
+      whole_places = rw (pushed, c.deref-left-in-Unary.ensures, places_pushed c.left.steps.items step (places_of inner)) (rw c.in-Unary.is at h.whole_places);
+      dated = rw c.deref-left-in-Unary.ensures (rw c.in-Unary.is at h.dated);
     }
 
 pub returns-in_err-recurrence-in-Rrule-clause-made : goal.returns-in_err-recurrence-in-Rrule-clause-made

@@ -9,9 +9,11 @@ use Rattle.query_core.proofs.searches.past_gap.Goals as goal
 
 pub returns-in-Ok-clause-answer : goal.returns-in-Ok-clause-answer
 returns-in-Ok-clause-answer g c =
-    let P : Tree Meaning → Type 0 = λ t. IsRunFrom (is_member t) (window_of t) c.args.dir c.in-At.first.0 c.in-Ok.run' in (
+    let P : Tree Meaning → Type 0 =
+    λ t. IsRunFrom (is_member t) (window_of t) c.args.dir c.in-At.first.0 c.in-Ok.run' in (
       c.in-At.first.0,
       c.in-At.ensures.answer.1,
-      begins_at_change (members_of_plan c.args.plan.now) c.args.dir c.args.p.0 c.in-At.first.0 c.requires.gap c.in-At.ensures.answer.0,
+      begins_at_change (members_of_plan c.args.plan.now) c.args.dir c.args.p.0 c.in-At.first.0
+          c.requires.gap c.in-At.ensures.answer.0,
       subst P c.change.ensures.same c.in-Ok.ensures.answer,
     )

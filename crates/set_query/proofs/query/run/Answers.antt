@@ -18,6 +18,8 @@ reads g c = record { unique = c.reading_laws.ensures.unique; long = c.reading_la
 
 budgets : (g : given.Over) (c : After-drop-text g) → Budgets
 budgets g c = record {
+  ahead = c.ample_laws.ensures.ahead;
+  tests = c.ample_laws.ensures.tests;
   above = c.budget_laws.ensures.enough;
   finds = c.budget_laws.ensures.ample;
   walks = record {

@@ -1,6 +1,5 @@
-use Rattle.std.proofs.Common.{rules, ◌≡◌, refl}
-use Rattle.cert_audit.specs.Due.{IsDue}
-use Rattle.cert_audit.specs.Searches.{test_of}
+use Rattle.std.proofs.Common.{rules, ◌≡◌}
+use Rattle.search_core.specs.Due.{IsDue}
 use Rattle.expr_tree.specs.Members.{is_member}
 use Rattle.moment_core.specs.Line.{position_of}
 use Rattle.moment_core.specs.declared.line.Dir.TheVariants.{Fore, Back}
@@ -8,8 +7,7 @@ use Rattle.plan_core.specs.Plans.{meant_of_plan, window_of}
 use Rattle.query_core.specs.Answering.{PlacesOfClosest, PlacesOfCurrent, PlacesOfNext}
 use Rattle.query_core.specs.Endless.{IsForEver, IsForEverClosest, IsForEverCurrent}
 use Rattle.query_core.specs.Neighbours.{IsClosestRun, IsCurrentRun, IsNextRun}
-use Rattle.report_text.specs.Lines.{test_line}
-use Rattle.set_query.specs.Report.{Outcome, tested, told}
+use Rattle.set_query.specs.Report.{Outcome, tested, told, told_test}
 use Rattle.set_query.proofs.PreparingLemmas.{searched_by, written_as}
 use Rattle.set_query.proofs.reporting.write_asked.Goals as goal
 
@@ -73,10 +71,11 @@ pub returns-in-Contains-clause-outcome : goal.returns-in-Contains-clause-outcome
 returns-in-Contains-clause-outcome g c =
     let s = c.args.search.now in
     let t = meant_of_plan s.plan in
-    let o : Outcome = record { status = 0; bytes = test_line (test_of (is_member t (position_of s.at.0))) } in
+    let test = c.contains-test.result in
+    let o : Outcome = told_test test in
     let line : c.bytes.result.now ≡ o.bytes = search rules in
     record {
       outcome = o;
-      as_asked = rw c.in-Contains.is tested;
-      written = written_as o 0 c.bytes.result.now refl line c.put.ensures;
+      as_asked = rw c.in-Contains.is (tested test c.contains-test.ensures.value);
+      written = written_as o c.status_of_test.result c.bytes.result.now c.status_of_test.ensures.value line c.put.ensures;
     }

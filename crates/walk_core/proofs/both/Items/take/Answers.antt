@@ -3,7 +3,7 @@ use Rattle.moment_core.specs.declared.line.Dir.TheVariants.{Fore}
 use Rattle.stored_pair.specs.Meanings.{Meaning}
 use Rattle.expr_tree.specs.Members.{is_member}
 use Rattle.expr_tree.specs.Tree.{Tree}
-use Rattle.cert_audit.specs.Due.{IsDue}
+use Rattle.search_core.specs.Due.{IsDue}
 use Rattle.plan_core.specs.Plans.{window_of}
 use Rattle.walk_core.specs.Both.{meant_of_items}
 use Rattle.walk_core.specs.Items.{AreItems}

@@ -5,7 +5,7 @@ use Rattle.span_core.specs.declared.answers.Token.{Token}
 use Rattle.stored_pair.specs.Meanings.{Meaning}
 use Rattle.expr_tree.specs.Members.{is_member}
 use Rattle.expr_tree.specs.Tree.{Tree}
-use Rattle.cert_audit.specs.Lawful.{AreLawful}
+use Rattle.search_core.specs.Lawful.{AreLawful}
 use Rattle.walk_core.specs.Walks.{meant_of_walk, token_of_walk}
 use Rattle.walk_core.proofs.Endless.{walk_holds}
 use Rattle.walk_core.proofs.Ranging.{walk_in_range, walks_on}

@@ -1,0 +1,270 @@
+ghost use Rattle.std.specs.Prelude.{◌≡◌, ◌≤◌, ◌<◌, ◌+◌, ◌^◌, IfErr, IfOk};
+ghost use Rattle.expr_tree.specs.Members.{is_member};
+ghost use Rattle.expr_tree.specs.Sorts.{nodes_of, reach_of};
+ghost use Rattle.expr_tree.specs.Sound.{IsSound};
+ghost use Rattle.expr_tree.specs.Tree.{During, Ends, Pairs, Starts};
+ghost use Rattle.moment_core.specs.Sets.{moments_in};
+ghost use Rattle.search_core.specs.Due.{IsDueAt};
+ghost use Rattle.cert_audit.specs.Nodes.{meant_of_node};
+ghost use Rattle.cert_audit.specs.Room.{HasRoom, IsWorkingPosition};
+
+use crate::leaves::Leaf;
+use crate::nodes::{Node, count};
+use crate::places::{Seconds, earlier, is_moment, one_after, one_before};
+use crate::turns::{either_turn, next_turn, with_candidate};
+use expr_tree::member_laws;
+use moment_core::{Dir, LOW, Op, Pos, Steps, floor, of};
+use search_core::{candidate_laws, counting_laws, due_laws};
+use span_core::Stop;
+use std::sync::ledger::Ledger;
+
+/// Whether the position is a member, or a stop where looking back used the budget up. The numbers
+/// of nodes are counted from 1 at this one.
+#[cycle(holds)]
+pub(crate) fn holds<L: Ledger>(
+    node: &Node,
+    p: Pos,
+    budget: u64,
+    steps: &mut Steps<L>,
+) -> Result<bool, Stop>
+    requires sound { IsSound (meant_of_node node.now) }
+    requires room { HasRoom (reach_of (meant_of_node node.now)) p.0 }
+    requires small { nodes_of (meant_of_node node.now) < 2 ^ 32 }
+    requires budget { 1 ≤ budget }
+    ensures value { IfOk result (λ v. v ≡ is_member (meant_of_node node.now) p.0) }
+    ensures node { IfErr result (λ s. s.node ≤ nodes_of (meant_of_node node.now)) }
+    ensures due { IfErr result (λ s. IsDueAt (meant_of_node node.now) 1 budget s p.0) }
+    ensures counted { steps.old ≤ steps.new }
+{
+    match node {
+        Node::Empty => Ok(false),
+        Node::List(moments) => Ok(is_met(moments, p, steps)),
+        Node::Span(span, _, _) => Ok(span.holds(p)),
+        Node::Field(leaf) => Ok(is_met(leaf, p, steps)),
+        Node::Ical(leaf) => Ok(is_met(leaf, p, steps)),
+        Node::Joined(Op::Union, a, b) => {
+            Ok(ask(a, p, budget, steps)? || ask_second(a, b, p, budget, steps)?)
+        }
+        Node::Joined(Op::Meet, a, b) => {
+            Ok(ask(a, p, budget, steps)? && ask_second(a, b, p, budget, steps)?)
+        }
+        Node::Joined(Op::Minus, a, b) => {
+            Ok(ask(a, p, budget, steps)? && !ask_second(a, b, p, budget, steps)?)
+        }
+        Node::Not(a) => Ok(!ask(a, p, budget, steps)?),
+        Node::During(a, seconds) => holds_during(a, *seconds, p, budget, steps),
+        Node::Pairs(a, b) => holds_pairs(a, b, p, budget, steps),
+        Node::Starts(a) => holds_start(a, p, budget, steps),
+        Node::Ends(a) => holds_end(a, p, budget, steps),
+        Node::Shift(a, seconds) => ask(a, earlier(p, *seconds), budget, steps),
+    }
+}
+
+/// Whether the position is a moment of the leaf.
+fn is_met<F: Leaf, L: Ledger>(leaf: &F, p: Pos, steps: &mut Steps<L>) -> bool
+    requires { IsWorkingPosition p.0 }
+    ensures value { result ≡ moments_in (F.has leaf.now) p.0 }
+    ensures counted { steps.old ≤ steps.new }
+{
+    let t = floor(p);
+    of(t) == p && leaf.test(t, steps)
+}
+
+/// The stop of a tree whose root has so many nodes before it.
+fn after(stop: Stop, before: u32) -> Stop
+    requires { before + stop.node < 2 ^ 32 }
+    ensures at { result.at ≡ stop.at }
+    ensures node { result.node ≡ before + stop.node }
+{
+    Stop {
+        at: stop.at,
+        node: before + stop.node,
+    }
+}
+
+/// Asks the first child, whose root has the number 2.
+#[cycle(holds)]
+fn ask<L: Ledger>(a: &Node, p: Pos, budget: u64, steps: &mut Steps<L>) -> Result<bool, Stop>
+    requires sound { IsSound (meant_of_node a.now) }
+    requires room { HasRoom (reach_of (meant_of_node a.now)) p.0 }
+    requires small { 1 + nodes_of (meant_of_node a.now) < 2 ^ 32 }
+    requires budget { 1 ≤ budget }
+    ensures value { IfOk result (λ v. v ≡ is_member (meant_of_node a.now) p.0) }
+    ensures node { IfErr result (λ s. s.node ≤ 1 + nodes_of (meant_of_node a.now)) }
+    ensures due { IfErr result (λ s. IsDueAt (meant_of_node a.now) 2 budget s p.0) }
+    ensures counted { steps.old ≤ steps.new }
+{
+    match holds(a, p, budget, steps) {
+        Ok(member) => Ok(member),
+        Err(stop) => Err(after(stop, 1)),
+    }
+}
+
+/// Asks the second child, whose root is numbered after the nodes of the first one.
+#[cycle(holds)]
+fn ask_second<L: Ledger>(
+    a: &Node,
+    b: &Node,
+    p: Pos,
+    budget: u64,
+    steps: &mut Steps<L>,
+) -> Result<bool, Stop>
+    requires sound { IsSound (meant_of_node b.now) }
+    requires room { HasRoom (reach_of (meant_of_node b.now)) p.0 }
+    requires small { 1 + nodes_of (meant_of_node a.now) + nodes_of (meant_of_node b.now) < 2 ^ 32 }
+    requires budget { 1 ≤ budget }
+    ensures value { IfOk result (λ v. v ≡ is_member (meant_of_node b.now) p.0) }
+    ensures node { IfErr result
+        (λ s. s.node ≤ 1 + nodes_of (meant_of_node a.now) + nodes_of (meant_of_node b.now)) }
+    ensures due { IfErr result
+        (λ s. IsDueAt (meant_of_node b.now) (2 + nodes_of (meant_of_node a.now)) budget s p.0) }
+    ensures counted { steps.old ≤ steps.new }
+{
+    match holds(b, p, budget, steps) {
+        Ok(member) => Ok(member),
+        Err(stop) => Err(after(stop, 1 + count(a))),
+    }
+}
+
+/// Whether a run of the set begins at the position.
+#[cycle(holds)]
+fn holds_start<L: Ledger>(a: &Node, p: Pos, budget: u64, steps: &mut Steps<L>) -> Result<bool, Stop>
+    requires sound { IsSound (meant_of_node a.now) }
+    requires room { HasRoom (1 + reach_of (meant_of_node a.now)) p.0 }
+    requires small { 1 + nodes_of (meant_of_node a.now) < 2 ^ 32 }
+    requires budget { 1 ≤ budget }
+    ensures value { IfOk result (λ v. v ≡ is_member (Starts (meant_of_node a.now)) p.0) }
+    ensures node { IfErr result (λ s. s.node ≤ 1 + nodes_of (meant_of_node a.now)) }
+    ensures due { IfErr result (λ s. IsDueAt (Starts (meant_of_node a.now)) 1 budget s p.0) }
+    ensures counted { steps.old ≤ steps.new }
+{
+    if !is_moment(p) {
+        return Ok(false);
+    }
+    if ask(a, p, budget, steps)? {
+        Ok(!ask(a, one_before(p), budget, steps)?)
+    } else {
+        ask(a, one_after(p), budget, steps)
+    }
+}
+
+/// Whether a run of the set ends at the position.
+#[cycle(holds)]
+fn holds_end<L: Ledger>(a: &Node, p: Pos, budget: u64, steps: &mut Steps<L>) -> Result<bool, Stop>
+    requires sound { IsSound (meant_of_node a.now) }
+    requires room { HasRoom (1 + reach_of (meant_of_node a.now)) p.0 }
+    requires small { 1 + nodes_of (meant_of_node a.now) < 2 ^ 32 }
+    requires budget { 1 ≤ budget }
+    ensures value { IfOk result (λ v. v ≡ is_member (Ends (meant_of_node a.now)) p.0) }
+    ensures node { IfErr result (λ s. s.node ≤ 1 + nodes_of (meant_of_node a.now)) }
+    ensures due { IfErr result (λ s. IsDueAt (Ends (meant_of_node a.now)) 1 budget s p.0) }
+    ensures counted { steps.old ≤ steps.new }
+{
+    if !is_moment(p) {
+        return Ok(false);
+    }
+    if ask(a, p, budget, steps)? {
+        Ok(!ask(a, one_after(p), budget, steps)?)
+    } else {
+        ask(a, one_before(p), budget, steps)
+    }
+}
+
+/// Whether a member of the set lies within the seconds before the position.
+#[cycle(holds)]
+fn holds_during<L: Ledger>(
+    a: &Node,
+    seconds: Seconds,
+    p: Pos,
+    budget: u64,
+    steps: &mut Steps<L>,
+) -> Result<bool, Stop>
+    requires sound { IsSound (During (meant_of_node a.now) seconds.0) }
+    requires room { HasRoom (reach_of (During (meant_of_node a.now) seconds.0)) p.0 }
+    requires small { 1 + nodes_of (meant_of_node a.now) < 2 ^ 32 }
+    requires budget { 1 ≤ budget }
+    ensures value { IfOk result
+        (λ v. v ≡ is_member (During (meant_of_node a.now) seconds.0) p.0) }
+    ensures node { IfErr result (λ s. s.node ≤ 1 + nodes_of (meant_of_node a.now)) }
+    ensures due { IfErr result
+        (λ s. IsDueAt (During (meant_of_node a.now) seconds.0) 1 budget s p.0) }
+    ensures counted { steps.old ≤ steps.new }
+{
+    member_laws();
+    due_laws();
+    counting_laws();
+    candidate_laws();
+    let before = earlier(p, seconds);
+    if p <= before {
+        return Ok(false);
+    }
+    let end = one_after(before);
+    let mut place = p;
+    let mut passed = 0;
+    'back: loop {
+        if ask(a, place, budget, steps)? {
+            return Ok(true);
+        }
+        if budget <= passed {
+            return Err(Stop { at: place, node: 1 });
+        }
+        let Some(turn) = next_turn(a, place, Dir::Back, end, steps) else {
+            return Ok(false);
+        };
+        passed = with_candidate(passed, Dir::Back, p, place, turn);
+        place = turn.place;
+    }
+}
+
+/// Whether the latest member of the first set up to the position, not below the calendar range, is
+/// followed by none of the second.
+#[cycle(holds)]
+fn holds_pairs<L: Ledger>(
+    opens: &Node,
+    closes: &Node,
+    p: Pos,
+    budget: u64,
+    steps: &mut Steps<L>,
+) -> Result<bool, Stop>
+    requires sound { IsSound (Pairs (meant_of_node opens.now) (meant_of_node closes.now)) }
+    requires room { HasRoom
+        (reach_of (Pairs (meant_of_node opens.now) (meant_of_node closes.now))) p.0 }
+    requires small { 1 + nodes_of (meant_of_node opens.now)
+        + nodes_of (meant_of_node closes.now) < 2 ^ 32 }
+    requires budget { 1 ≤ budget }
+    ensures value { IfOk result
+        (λ v. v ≡ is_member (Pairs (meant_of_node opens.now) (meant_of_node closes.now)) p.0) }
+    ensures node { IfErr result
+        (λ s. s.node ≤ 1 + nodes_of (meant_of_node opens.now)
+        + nodes_of (meant_of_node closes.now)) }
+    ensures due { IfErr result
+        (λ s. IsDueAt (Pairs (meant_of_node opens.now) (meant_of_node closes.now)) 1 budget s p.0) }
+    ensures counted { steps.old ≤ steps.new }
+{
+    member_laws();
+    due_laws();
+    counting_laws();
+    candidate_laws();
+    let low = Pos(2 * LOW);
+    if p < low {
+        return Ok(false);
+    }
+    let mut place = p;
+    let mut passed = 0;
+    'back: loop {
+        if ask(opens, place, budget, steps)? {
+            return Ok(true);
+        }
+        if ask_second(opens, closes, place, budget, steps)? {
+            return Ok(false);
+        }
+        if budget <= passed {
+            return Err(Stop { at: place, node: 1 });
+        }
+        let Some(turn) = either_turn(opens, closes, place, Dir::Back, low, steps) else {
+            return Ok(false);
+        };
+        passed = with_candidate(passed, Dir::Back, p, place, turn);
+        place = turn.place;
+    }
+}

@@ -1,0 +1,9 @@
+pub mod Ampleness
+pub mod Counting
+pub mod Days
+pub mod Framing
+pub mod Gaps
+pub mod Latest
+pub mod Numbering
+pub mod Repeating
+pub mod Stretching

@@ -1,0 +1,9 @@
+pub mod Ample
+pub mod Candidates
+pub mod Due
+pub mod Lawful
+pub mod Laws
+pub mod LookingBack
+pub mod Steps
+pub mod Stretches
+pub mod TreeFrames
