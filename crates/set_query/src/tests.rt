@@ -14,6 +14,9 @@ use std::sync::ledger::{Blank, Ledger};
 use std::test::Fail;
 use stored_pair::Book;
 
+mod looking_back;
+mod maker_texts;
+mod makers;
 mod neighbours;
 mod rfc_examples;
 mod rrules;
@@ -435,11 +438,6 @@ fn texts_are_shown_or_refused(rt: HostRuntime) -> Result<(), Fail> {
         ("daily( )", 0, "daily()\n"),
         // the calls that aren't built
         ("event(\"fortnight\")", 2, "refused unbuilt\n"),
-        ("during(empty(), 60)", 2, "refused unbuilt\n"),
-        ("pairs(empty(), empty())", 2, "refused unbuilt\n"),
-        ("starts(span())", 2, "refused unbuilt\n"),
-        ("ends(span())", 2, "refused unbuilt\n"),
-        ("shift(empty(), 60)", 2, "refused unbuilt\n"),
         ("zoned(empty(), \"UTC0\")", 2, "refused unbuilt\n"),
         ("zoned_first(empty(), \"UTC0\")", 2, "refused unbuilt\n"),
     ];
