@@ -4,18 +4,16 @@ use Rattle.std.proofs.lemmas.Bool.{and_left, and_right, both_ways, cases_Bool}
 use Rattle.std.proofs.lemmas.Int.{by_lt_z, ints}
 use Rattle.std.specs.Ordering.{int_eq}
 use Rattle.moment_core.proofs.Comparing.{int_eq-is}
-use Rattle.moment_core.proofs.LineLaws.{halves, seen-zero}
-use Rattle.moment_core.specs.Line.{moment_of, position_of}
+use Rattle.moment_core.proofs.LineLaws.{at_moment, at_open_second, halves, seen-zero}
+use Rattle.moment_core.specs.Line.{is_moment, moment_of, position_of}
 use Rattle.moment_core.specs.Sets.{ahead, seen, IsUpTo}
 use Rattle.moment_core.specs.declared.line.Dir.{Dir}
 use Rattle.moment_core.specs.declared.line.Dir.TheVariants.{Fore, Back}
 use Rattle.moment_core.specs.declared.line.Pos.{Pos}
-use Rattle.span_core.specs.Bounds.{is_moment}
 use Rattle.expr_tree.specs.Members.{begins_at, ends_at}
 use Rattle.cert_audit.specs.Room.{HasRoom}
 use Rattle.cert_audit.specs.Turns.{IsEdge, IsTurn, StandsIfCounted, candidate_at, edge_at, edge_up_to, is_past, open_before}
 use Rattle.cert_audit.specs.declared.turns.Turn.{Turn}
-use Rattle.cert_audit.proofs.Halves.{at_moment, at_open_second}
 use Rattle.cert_audit.proofs.RuleTurning.{steps_before}
 use Rattle.cert_audit.proofs.Turning.{not_past}
 

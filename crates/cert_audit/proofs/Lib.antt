@@ -1,14 +1,9 @@
 pub mod Edges
-pub mod Halves
-pub mod Lawfulness
-pub mod Listing
 pub mod Looking
 pub mod Moving
-pub mod Nearness
 pub mod Passing
 pub mod Readying
 pub mod Rooms
 pub mod RuleTurning
-pub mod Settling
 pub mod Sweeping
 pub mod Turning

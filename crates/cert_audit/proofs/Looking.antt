@@ -2,26 +2,27 @@
 use Rattle.std.proofs.Common.{◌≡◌, ◌⊎◌, refl, ap, sym, subst, ◌∙◌, inl, inr, arith, ℕ, ◌+◌, ◌≤◌, ℤ, pos, ◌+ℤ◌, ◌-ℤ◌, ◌≤ℤ◌, ◌<ℤ◌, unsigned_abs, Bool, true, false, Some, None, Result, Ok, Err, IfErr}
 use Rattle.std.proofs.lemmas.Bool.{both_ways, cases_Bool, or_parts}
 use Rattle.std.proofs.lemmas.Int.{by_lt_z, ints}
-use Rattle.moment_core.specs.Line.{moment_of, position_of}
+use Rattle.moment_core.specs.Line.{is_moment, moment_of, position_of}
+use Rattle.moment_core.specs.declared.joining.UnaryOp.TheVariants.{During}
 use Rattle.moment_core.specs.declared.line.Dir.TheVariants.{Back}
 use Rattle.moment_core.specs.declared.line.Pos.{Pos}
 use Rattle.moment_core.specs.declared.line.TheConstants.{LOW}
+use Rattle.moment_core.proofs.LineLaws.{at_moment, at_open_second}
 use Rattle.span_core.specs.Answers.{counted_to}
-use Rattle.span_core.specs.Bounds.{is_moment}
 use Rattle.span_core.specs.declared.answers.Stop.{Stop}
 use Rattle.stored_pair.specs.Meanings.{Meaning}
 use Rattle.expr_tree.specs.Laws.{IsBetween, IsBetweenMoments, IsLasting, LastsFromMoment}
 use Rattle.expr_tree.specs.Members.{is_between, is_member, lasts_at}
 use Rattle.expr_tree.specs.Sorts.{nodes_of}
 use Rattle.expr_tree.specs.Sound.{HasMomentsAlone}
-use Rattle.expr_tree.specs.Tree.{Tree, Empty, Spanned, Ruled, Joined, Not, During, Pairs, Starts, Ends, Shift}
+use Rattle.expr_tree.specs.Tree.{Tree, Empty, Spanned, Ruled, Joined, Pairs, Unary}
 use Rattle.search_core.specs.Candidates.{candidates, count_between, is_candidate}
 use Rattle.search_core.specs.Due.{IsDueAt, StopsBack}
 use Rattle.search_core.specs.Laws.{DurationsLookBack, OnePasses, PairsLookBack, PartsAdd, PlacesAreFewer, WiderCountsMore}
 use Rattle.search_core.specs.LookingBack.{during_from, either, pairs_from}
+use Rattle.search_core.specs.Unary.{looks_from}
 use Rattle.cert_audit.specs.Turns.{IsTurn, StandsIfCounted, passed_by}
 use Rattle.cert_audit.specs.declared.turns.Turn.{Turn}
-use Rattle.cert_audit.proofs.Halves.{at_moment, at_open_second}
 use Rattle.cert_audit.proofs.Passing.{passed_on}
 
 -- the stop of a tree whose root has a greater number
@@ -34,38 +35,6 @@ Due-numbered (Joined op x y) n m k budget s r q e node at due = elim due [
   | inl one ↦ inl (Due-numbered x (n + 1) (m + 1) k budget s r q (omega arith) node at one)
   | inr other ↦ inr (Due-numbered y (n + 1 + nodes_of x) (m + 1 + nodes_of x) k budget s r q
       (omega arith) node at other)
-]
-Due-numbered (Not x) n m k budget s r q e node at due =
-    Due-numbered x (n + 1) (m + 1) k budget s r q (omega arith) node at due
-Due-numbered (Shift x seconds) n m k budget s r q e node at due =
-    Due-numbered x (n + 1) (m + 1) k budget s r (q -ℤ position_of seconds) (omega arith) node at due
-Due-numbered (Starts x) n m k budget s r q e node at due = (
-  due.0,
-  due.1,
-  due.2,
-  Due-numbered x (n + 1) (m + 1) k budget s r due.0 (omega arith) node at
-      due.3,
-)
-Due-numbered (Ends x) n m k budget s r q e node at due = (
-  due.0,
-  due.1,
-  due.2,
-  Due-numbered x (n + 1) (m + 1) k budget s r due.0 (omega arith) node at
-      due.3,
-)
-Due-numbered (During x seconds) n m k budget s r q e node at due = elim due [
-  | inl own ↦ inl (
-    (let number : s.node ≡ n = own.0 in omega arith),
-    subst (λ (p : Pos). StopsBack (is_member x) (candidates (During x seconds))
-        (during_from (is_member x) seconds q) q budget p.0) (sym at) own.1,
-  )
-  | inr inner ↦ inr (
-    inner.0,
-    inner.1,
-    inner.2,
-    Due-numbered x (n + 1) (m + 1) k budget s r inner.0
-        (omega arith) node at inner.3,
-  )
 ]
 Due-numbered (Pairs x y) n m k budget s r q e node at due = elim due [
   | inl own ↦ inl (
@@ -83,6 +52,21 @@ Due-numbered (Pairs x y) n m k budget s r q e node at due = elim due [
       | inr other ↦ inr (Due-numbered y (n + 1 + nodes_of x) (m + 1 + nodes_of x) k budget s r
           inner.0 (omega arith) node at other)
     ],
+  )
+]
+Due-numbered (Unary op x) n m k budget s r q e node at due = elim due [
+  | inl own ↦ inl (
+    own.0,
+    (let number : s.node ≡ n = own.1 in omega arith),
+    subst (λ (p : Pos). StopsBack (is_member x) (candidates (Unary op x))
+        (looks_from op (is_member x) q) q budget p.0) (sym at) own.2,
+  )
+  | inr inner ↦ inr (
+    inner.0,
+    inner.1,
+    inner.2,
+    Due-numbered x (n + 1) (m + 1) k budget s r inner.0
+        (omega arith) node at inner.3,
   )
 ]
 
@@ -202,7 +186,7 @@ module _ (lasts : LastsFromMoment) (back : DurationsLookBack) (cover : PlacesAre
   pub during_stop : (a : Tree Meaning) (seconds p : ℤ) (place : Pos) (passed budget : ℕ)
       → Looked (is_member a) (is_candidate a) p place.0 passed
       → (p -ℤ position_of seconds) <ℤ place.0 → is_member a place.0 ≡ false → budget ≤ passed
-      → IsDueAt (During a seconds) 1 budget (record { at = place; node = 1 }) p
+      → IsDueAt (Unary (During seconds) a) 1 budget (record { at = place; node = 1 }) p
   during_stop a seconds p place passed budget l low none used =
       let n = l.0 in
       let at : place.0 ≡ p -ℤ pos n = l.1.place_is in
@@ -211,6 +195,7 @@ module _ (lasts : LastsFromMoment) (back : DurationsLookBack) (cover : PlacesAre
       place.0 p = ap (λ z. count_between (is_candidate a) z p) (sym at) in
       let few = cover a place.0 p in
       inl (
+        refl,
         refl,
         record {
           before = omega (arith, ints);
@@ -222,7 +207,7 @@ module _ (lasts : LastsFromMoment) (back : DurationsLookBack) (cover : PlacesAre
 
   pub during_inner : (a : Tree Meaning) (seconds p place : ℤ) (passed budget : ℕ) (s : Stop)
       → Looked (is_member a) (is_candidate a) p place passed → (p -ℤ position_of seconds) <ℤ place
-      → IsDueAt a 2 budget s place → IsDueAt (During a seconds) 1 budget s p
+      → IsDueAt a 2 budget s place → IsDueAt (Unary (During seconds) a) 1 budget s p
   during_inner a seconds p place passed budget s l low due =
       let n = l.0 in
       let at : place ≡ p -ℤ pos n = l.1.place_is in

@@ -1,19 +1,18 @@
 -- Turns of sets that are moved, and of sets that follow others.
-use Rattle.std.proofs.Common.{◌≡◌, refl, ap, sym, subst, ◌∙◌, inl, inr, arith, ℕ, zero, suc, ◌+◌, ◌<◌, ◌≤◌, ℤ, pos, ◌+ℤ◌, ◌-ℤ◌, ◌≤ℤ◌, ◌<ℤ◌, unsigned_abs, Bool, true, false, Some, None}
+use Rattle.std.proofs.Common.{◌≡◌, ap, sym, subst, ◌∙◌, inl, inr, arith, ℕ, zero, suc, ◌+◌, ◌<◌, ◌≤◌, ℤ, pos, ◌+ℤ◌, ◌-ℤ◌, ◌≤ℤ◌, ◌<ℤ◌, unsigned_abs, Bool, true, false, Some, None}
 use Rattle.std.proofs.lemmas.Bool.{both_ways, cases_Bool}
 use Rattle.std.proofs.lemmas.Int.{by_lt_z, ints}
-use Rattle.moment_core.proofs.LineLaws.{halves, seen-zero}
-use Rattle.moment_core.specs.Line.{moment_of, position_of}
+use Rattle.moment_core.proofs.LineLaws.{at_moment, at_open_second, halves, seen-zero}
+use Rattle.moment_core.specs.Line.{is_moment, moment_of, position_of}
 use Rattle.moment_core.specs.Sets.{ahead, seen, IsUpTo}
 use Rattle.moment_core.specs.declared.line.Dir.{Dir}
 use Rattle.moment_core.specs.declared.line.Dir.TheVariants.{Fore, Back}
-use Rattle.span_core.specs.Bounds.{is_moment}
+use Rattle.moment_core.proofs.Truths.{same_truth}
 use Rattle.expr_tree.specs.Laws.{IsBetween, IsBetweenMoments, IsLasting, LastsFromMoment}
 use Rattle.expr_tree.specs.Members.{is_between, lasts_at}
 use Rattle.expr_tree.specs.Sound.{HasMomentsAlone}
 use Rattle.cert_audit.specs.Turns.{Follows, IsTurn, StandsIfCounted, candidate_at}
 use Rattle.cert_audit.specs.declared.turns.Turn.{Turn}
-use Rattle.cert_audit.proofs.Halves.{at_moment, at_open_second}
 
 ahead-moved : (dir : Dir) (p s : ℤ) (k : ℕ) → ahead dir (p -ℤ s) k ≡ ahead dir p k -ℤ s
 ahead-moved Fore p s k = omega (arith, ints)
@@ -110,12 +109,6 @@ none_back f p n stays z low high =
 
 not_at : (f : ℤ → Bool) (z : ℤ) (P : Type 0) → f z ≡ false → f z ≡ true → P
 not_at f z P fails holds = absurd (both_ways (f z) fails holds)
-
--- two truth values that imply each other are one
-same_truth : (x y : Bool) → (x ≡ true → y ≡ true) → (y ≡ true → x ≡ true) → x ≡ y
-same_truth true y h k = sym (h refl)
-same_truth false true h k = k refl
-same_truth false false h k = refl
 
 module _ (lasts : LastsFromMoment) where
   -- where no member enters or leaves, the positions that members hold for a while stay the same

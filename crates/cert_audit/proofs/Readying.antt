@@ -4,9 +4,9 @@ use Rattle.std.proofs.lemmas.Int.{ints}
 use Rattle.stored_pair.specs.Meanings.{Entries}
 use Rattle.expr_tree.specs.Laws.{SortedAreSmall, SortedAreSound, SortedStayInReach}
 use Rattle.expr_tree.specs.Sorts.{node_limit, nodes_of, sort_of_tree}
-use Rattle.expr_tree.specs.Tree.{Rule, Tree, Empty, Spanned, Ruled, Joined, Not, During, Pairs, Starts, Ends, Shift, meant_of}
+use Rattle.expr_tree.specs.Tree.{Rule, Tree, Empty, Spanned, Ruled, Joined, Pairs, Unary, meant_of}
 use Rattle.search_core.specs.Lawful.{AreLawful}
-use Rattle.cert_audit.specs.Laws.{WellFormedAreLawful}
+use Rattle.lowered_tree.specs.Laws.{WellFormedAreLawful}
 use Rattle.cert_audit.specs.Lowered.{CanBeReady, IsSorted, JoinsSorted}
 use Rattle.cert_audit.specs.Searchable.{IsSearchable}
 
@@ -47,12 +47,8 @@ module _ (entries : Entries) (lawful : WellFormedAreLawful) (sound : SortedAreSo
   joins_searchable Empty law both = absurd both
   joins_searchable (Spanned bounds low high) law both = absurd both
   joins_searchable (Ruled rule) law both = absurd both
-  joins_searchable (Not a) law both = absurd both
-  joins_searchable (During a seconds) law both = absurd both
   joins_searchable (Pairs a b) law both = absurd both
-  joins_searchable (Starts a) law both = absurd both
-  joins_searchable (Ends a) law both = absurd both
-  joins_searchable (Shift a seconds) law both = absurd both
+  joins_searchable (Unary op a) law both = absurd both
 
   searchable_by : (t : Tree Rule) → AreLawful (meant_of entries t) → IsSorted t ⊎ JoinsSorted t
       → IsSearchable (meant_of entries t)

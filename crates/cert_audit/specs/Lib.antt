@@ -1,10 +1,5 @@
-pub mod Laws
 pub mod Lowered
-pub mod Modest
-pub mod Nodes
 pub mod Room
 pub mod Searchable
 pub mod Searches
-pub mod Settling
-pub mod Stamped
 pub mod Turns

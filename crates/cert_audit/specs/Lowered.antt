@@ -11,9 +11,9 @@ use Rattle.expr_tree.specs.Sorts.{sort_of_tree}
 use Rattle.expr_tree.specs.Tree.{Rule, Tree, Joined}
 use Rattle.expr_tree.specs.WellFormed.{IsWellFormed}
 use Rattle.search_core.specs.Due.{IsDue}
-use Rattle.cert_audit.specs.Nodes.{meant_of_node}
+use Rattle.lowered_tree.specs.Nodes.{meant_of_node}
 use Rattle.search_core.specs.TreeFrames.{frame_of_tree}
-use Rattle.cert_audit.specs.declared.lowering.Ready.{Ready}
+use Rattle.cert_audit.specs.declared.ready.Ready.{Ready}
 
 -- a tree that has a sort
 abbrev pub IsSorted : Tree Rule → Type 0

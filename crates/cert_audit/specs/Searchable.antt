@@ -6,7 +6,7 @@ use Rattle.moment_core.specs.declared.line.TheConstants.{REACH}
 use Rattle.stored_pair.specs.Meanings.{Meaning}
 use Rattle.expr_tree.specs.Sorts.{nodes_of, reach_of}
 use Rattle.expr_tree.specs.Sound.{IsSound}
-use Rattle.expr_tree.specs.Tree.{Tree, Empty, Spanned, Ruled, Joined, Not, During, Pairs, Starts, Ends, Shift}
+use Rattle.expr_tree.specs.Tree.{Tree, Empty, Spanned, Ruled, Joined, Pairs, Unary}
 use Rattle.search_core.specs.Lawful.{AreLawful, AreLawful-prop}
 
 -- a tree that may be searched: its rules are lawful, its spans are made of moments alone, it looks
@@ -23,13 +23,9 @@ IsSound-prop Empty = hlevel props
 IsSound-prop (Spanned bounds low high) = hlevel props
 IsSound-prop (Ruled rule) = hlevel props
 IsSound-prop (Joined op a b) = ×_prop (IsSound-prop a) (IsSound-prop b)
-IsSound-prop (Not a) = IsSound-prop a
-IsSound-prop (During a seconds) = ×_prop (IsSound-prop a) (hlevel props)
 IsSound-prop (Pairs a b) =
     ×_prop (×_prop (IsSound-prop a) (IsSound-prop b)) (×_prop (hlevel props) (hlevel props))
-IsSound-prop (Starts a) = IsSound-prop a
-IsSound-prop (Ends a) = IsSound-prop a
-IsSound-prop (Shift a seconds) = IsSound-prop a
+IsSound-prop (Unary op a) = ×_prop (IsSound-prop a) (hlevel props)
 
 pub IsSearchable-prop : (t : Tree Meaning) → IsProp (IsSearchable t)
 IsSearchable-prop t x y =

@@ -6,7 +6,7 @@ use Rattle.span_core.specs.Answers.{IsAnswer}
 use Rattle.span_core.specs.declared.answers.Answer.{Answer}
 use Rattle.span_core.specs.declared.answers.Answer.TheVariants.{None as Never, Edge}
 use Rattle.cert_audit.specs.Lowered.{due_of, members_of, window_of_ready}
-use Rattle.cert_audit.specs.declared.lowering.Ready.{Ready}
+use Rattle.cert_audit.specs.declared.ready.Ready.{Ready}
 
 -- the answer where nothing differs
 abbrev pub unchanged : Option Window → Answer

@@ -1,14 +1,13 @@
 -- The nearest place at which a set may change.
 use Rattle.std.specs.Prelude.{◌≡◌, ◌+◌, ◌≤◌, ℕ, ℤ, pos, ◌+ℤ◌, ◌-ℤ◌, Bool, true, false, ◌&&◌, ◌||◌, int_lt, Option, Some, None, if◌then◌else◌}
 use Rattle.std.specs.Ordering.{int_eq}
-use Rattle.moment_core.specs.Line.{IsWorkingMoment, moment_of, position_of}
+use Rattle.moment_core.specs.Line.{IsWorkingMoment, is_moment, moment_of, position_of}
 use Rattle.moment_core.specs.Sets.{ahead, seen, IsUpTo}
 use Rattle.moment_core.specs.declared.line.Dir.{Dir}
 use Rattle.moment_core.specs.declared.line.Dir.TheVariants.{Fore, Back}
 use Rattle.moment_core.specs.declared.line.Pos.{Pos}
 use Rattle.moment_core.specs.declared.line.Step.{Step}
 use Rattle.moment_core.specs.declared.line.Step.TheVariants.{Hit, Pass, End}
-use Rattle.span_core.specs.Bounds.{is_moment}
 use Rattle.cert_audit.specs.declared.turns.Turn.{Turn}
 
 -- q lies past p in the direction

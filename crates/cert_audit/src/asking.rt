@@ -2,18 +2,18 @@ ghost use Rattle.std.specs.Prelude.{◌≡◌, ◌≤◌, ◌<◌, ◌+◌, ◌^
 ghost use Rattle.expr_tree.specs.Members.{is_member};
 ghost use Rattle.expr_tree.specs.Sorts.{nodes_of, reach_of};
 ghost use Rattle.expr_tree.specs.Sound.{IsSound};
-ghost use Rattle.expr_tree.specs.Tree.{During, Ends, Pairs, Starts};
+ghost use Rattle.expr_tree.specs.Tree.{Pairs, Unary};
+ghost use Rattle.moment_core.specs.declared.joining.UnaryOp.TheVariants.{During, Ends, Starts};
 ghost use Rattle.moment_core.specs.Sets.{moments_in};
 ghost use Rattle.search_core.specs.Due.{IsDueAt};
-ghost use Rattle.cert_audit.specs.Nodes.{meant_of_node};
+ghost use Rattle.lowered_tree.specs.Nodes.{meant_of_node};
 ghost use Rattle.cert_audit.specs.Room.{HasRoom, IsWorkingPosition};
 
-use crate::leaves::Leaf;
-use crate::nodes::{Node, count};
-use crate::places::{Seconds, earlier, is_moment, one_after, one_before};
+use crate::places::is_moment;
 use crate::turns::{either_turn, next_turn, with_candidate};
 use expr_tree::member_laws;
-use moment_core::{Dir, LOW, Op, Pos, Steps, floor, of};
+use lowered_tree::{Leaf, Node, earlier, node_count, one_after, one_before};
+use moment_core::{Dir, LOW, Op, Pos, Steps, UnaryOp, floor, of};
 use search_core::{candidate_laws, counting_laws, due_laws};
 use span_core::Stop;
 use std::sync::ledger::Ledger;
@@ -51,12 +51,8 @@ pub(crate) fn holds<L: Ledger>(
         Node::Joined(Op::Minus, a, b) => {
             Ok(ask(a, p, budget, steps)? && !ask_second(a, b, p, budget, steps)?)
         }
-        Node::Not(a) => Ok(!ask(a, p, budget, steps)?),
-        Node::During(a, seconds) => holds_during(a, *seconds, p, budget, steps),
         Node::Pairs(a, b) => holds_pairs(a, b, p, budget, steps),
-        Node::Starts(a) => holds_start(a, p, budget, steps),
-        Node::Ends(a) => holds_end(a, p, budget, steps),
-        Node::Shift(a, seconds) => ask(a, earlier(p, *seconds), budget, steps),
+        Node::Unary(op, a) => holds_unary(*op, a, p, budget, steps),
     }
 }
 
@@ -122,7 +118,34 @@ fn ask_second<L: Ledger>(
 {
     match holds(b, p, budget, steps) {
         Ok(member) => Ok(member),
-        Err(stop) => Err(after(stop, 1 + count(a))),
+        Err(stop) => Err(after(stop, 1 + node_count(a))),
+    }
+}
+
+/// Whether the position is a member of what is made of the set.
+#[cycle(holds)]
+fn holds_unary<L: Ledger>(
+    op: UnaryOp,
+    a: &Node,
+    p: Pos,
+    budget: u64,
+    steps: &mut Steps<L>,
+) -> Result<bool, Stop>
+    requires sound { IsSound (Unary op (meant_of_node a.now)) }
+    requires room { HasRoom (reach_of (Unary op (meant_of_node a.now))) p.0 }
+    requires small { 1 + nodes_of (meant_of_node a.now) < 2 ^ 32 }
+    requires budget { 1 ≤ budget }
+    ensures value { IfOk result (λ v. v ≡ is_member (Unary op (meant_of_node a.now)) p.0) }
+    ensures node { IfErr result (λ s. s.node ≤ 1 + nodes_of (meant_of_node a.now)) }
+    ensures due { IfErr result (λ s. IsDueAt (Unary op (meant_of_node a.now)) 1 budget s p.0) }
+    ensures counted { steps.old ≤ steps.new }
+{
+    match op {
+        UnaryOp::Not => Ok(!ask(a, p, budget, steps)?),
+        UnaryOp::During(seconds) => holds_during(a, seconds, p, budget, steps),
+        UnaryOp::Starts => holds_start(a, p, budget, steps),
+        UnaryOp::Ends => holds_end(a, p, budget, steps),
+        UnaryOp::Shift(seconds) => ask(a, earlier(p, seconds), budget, steps),
     }
 }
 
@@ -133,9 +156,9 @@ fn holds_start<L: Ledger>(a: &Node, p: Pos, budget: u64, steps: &mut Steps<L>) -
     requires room { HasRoom (1 + reach_of (meant_of_node a.now)) p.0 }
     requires small { 1 + nodes_of (meant_of_node a.now) < 2 ^ 32 }
     requires budget { 1 ≤ budget }
-    ensures value { IfOk result (λ v. v ≡ is_member (Starts (meant_of_node a.now)) p.0) }
+    ensures value { IfOk result (λ v. v ≡ is_member (Unary Starts (meant_of_node a.now)) p.0) }
     ensures node { IfErr result (λ s. s.node ≤ 1 + nodes_of (meant_of_node a.now)) }
-    ensures due { IfErr result (λ s. IsDueAt (Starts (meant_of_node a.now)) 1 budget s p.0) }
+    ensures due { IfErr result (λ s. IsDueAt (Unary Starts (meant_of_node a.now)) 1 budget s p.0) }
     ensures counted { steps.old ≤ steps.new }
 {
     if !is_moment(p) {
@@ -155,9 +178,9 @@ fn holds_end<L: Ledger>(a: &Node, p: Pos, budget: u64, steps: &mut Steps<L>) -> 
     requires room { HasRoom (1 + reach_of (meant_of_node a.now)) p.0 }
     requires small { 1 + nodes_of (meant_of_node a.now) < 2 ^ 32 }
     requires budget { 1 ≤ budget }
-    ensures value { IfOk result (λ v. v ≡ is_member (Ends (meant_of_node a.now)) p.0) }
+    ensures value { IfOk result (λ v. v ≡ is_member (Unary Ends (meant_of_node a.now)) p.0) }
     ensures node { IfErr result (λ s. s.node ≤ 1 + nodes_of (meant_of_node a.now)) }
-    ensures due { IfErr result (λ s. IsDueAt (Ends (meant_of_node a.now)) 1 budget s p.0) }
+    ensures due { IfErr result (λ s. IsDueAt (Unary Ends (meant_of_node a.now)) 1 budget s p.0) }
     ensures counted { steps.old ≤ steps.new }
 {
     if !is_moment(p) {
@@ -174,20 +197,20 @@ fn holds_end<L: Ledger>(a: &Node, p: Pos, budget: u64, steps: &mut Steps<L>) -> 
 #[cycle(holds)]
 fn holds_during<L: Ledger>(
     a: &Node,
-    seconds: Seconds,
+    seconds: i64,
     p: Pos,
     budget: u64,
     steps: &mut Steps<L>,
 ) -> Result<bool, Stop>
-    requires sound { IsSound (During (meant_of_node a.now) seconds.0) }
-    requires room { HasRoom (reach_of (During (meant_of_node a.now) seconds.0)) p.0 }
+    requires sound { IsSound (Unary (During seconds) (meant_of_node a.now)) }
+    requires room { HasRoom (reach_of (Unary (During seconds) (meant_of_node a.now))) p.0 }
     requires small { 1 + nodes_of (meant_of_node a.now) < 2 ^ 32 }
     requires budget { 1 ≤ budget }
     ensures value { IfOk result
-        (λ v. v ≡ is_member (During (meant_of_node a.now) seconds.0) p.0) }
+        (λ v. v ≡ is_member (Unary (During seconds) (meant_of_node a.now)) p.0) }
     ensures node { IfErr result (λ s. s.node ≤ 1 + nodes_of (meant_of_node a.now)) }
     ensures due { IfErr result
-        (λ s. IsDueAt (During (meant_of_node a.now) seconds.0) 1 budget s p.0) }
+        (λ s. IsDueAt (Unary (During seconds) (meant_of_node a.now)) 1 budget s p.0) }
     ensures counted { steps.old ≤ steps.new }
 {
     member_laws();

@@ -5,17 +5,15 @@
 mod asking;
 mod frames;
 mod laws;
-mod leaves;
-mod lowering;
-mod moments;
-mod nodes;
 mod places;
+mod ready;
 mod search;
 #[cfg(test)]
 mod tests;
 mod turns;
 
 pub use frames::frame_of;
-pub use laws::{lawful_laws, ready_laws, settle_laws};
-pub use lowering::{PlanFault, Ready, SETTLE_LIMIT};
+pub use laws::ready_laws;
+pub use lowered_tree::{PlanFault, SETTLE_LIMIT, lawful_laws, settle_laws};
+pub use ready::Ready;
 pub use search::sweep;

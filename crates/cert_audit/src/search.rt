@@ -5,7 +5,7 @@ ghost use Rattle.cert_audit.specs.Lowered.{members_of, window_of_ready};
 ghost use Rattle.cert_audit.specs.Searches.{AnswersAt, unchanged};
 
 use crate::frames::frame_of;
-use crate::lowering::Ready;
+use crate::ready::Ready;
 use crate::turns::with_candidate;
 use frame_core::{window, window_laws};
 use moment_core::{Dir, HIGH, LOW, Pos, Steps, Window};

@@ -595,22 +595,6 @@ fn so_it_does_at_both_ends_of_the_range(rt: HostRuntime) -> Result<(), Fail> {
 }
 
 #[test]
-fn each_kind_of_span_has_its_frame(rt: HostRuntime) -> Result<(), Fail> {
-    const ROWS: &[(Bound, Bound, i64, i64)] = &[
-        (Bound::Closed(Moment(0)), Bound::Open(Moment(5)), 10, -1),
-        (Bound::Open(Moment(5)), Bound::Closed(Moment(9)), 19, 10),
-        (Bound::Closed(Moment(0)), Bound::Inf, 0, -1),
-        (Bound::Inf, Bound::Open(Moment(9)), 18, 17),
-        (Bound::Inf, Bound::Inf, -754_838_438_400, 506_232_806_398),
-    ];
-    for (low, high, hi, lo) in ROWS {
-        let set = Sketch::One(Leaf::Span(*low, *high));
-        holds(&rt, rt.alloc(), set, Want::StaysPast { hi: *hi, lo: *lo })?;
-    }
-    Ok(())
-}
-
-#[test]
 fn nothing_changes_past_a_span_either_way(rt: HostRuntime) -> Result<(), Fail> {
     const WANTED: &[Want] = &[
         Want::Answer(

@@ -8,19 +8,16 @@ ghost use Rattle.span_core.specs.Bounds.{IsGiven, ends_after, lies_between, reac
 ghost use Rattle.expr_tree.specs.Members.{is_member, lasts_at};
 ghost use Rattle.expr_tree.specs.Sorts.{reach_of};
 ghost use Rattle.expr_tree.specs.Sound.{HasMomentsAlone, IsSound};
-ghost use Rattle.expr_tree.specs.Tree.{During};
+ghost use Rattle.expr_tree.specs.Tree.{Unary};
 ghost use Rattle.search_core.specs.Candidates.{bounds_at, is_bound_at, is_candidate};
-ghost use Rattle.cert_audit.specs.Nodes.{meant_of_node};
+ghost use Rattle.lowered_tree.specs.Nodes.{meant_of_node};
 ghost use Rattle.cert_audit.specs.Room.{HasRoom, IsWorkingPosition};
 ghost use Rattle.cert_audit.specs.Turns.{Follows, IsEdge, IsTurn, IsWorkingStep, StandsIfCounted, crossed, edge_at, edge_up_to, nearer_turn, passed_by, turn_of_step, turn_up_to};
 
-use crate::leaves::Leaf;
-use crate::nodes::Node;
-use crate::places::{
-    Seconds, candidate_at, earlier, is_past, later, next, one_after, one_before, open_before,
-};
+use crate::places::{candidate_at, is_past, next, open_before};
 use expr_tree::member_laws;
-use moment_core::{Dir, Pos, Step, Steps, floor, of};
+use lowered_tree::{Leaf, Node, earlier, later, one_after, one_before};
+use moment_core::{Dir, Pos, Step, Steps, UnaryOp, floor, of};
 use span_core::{Bound, Span, bound_laws};
 use std::sync::ledger::Ledger;
 
@@ -58,16 +55,40 @@ pub(crate) fn next_turn<L: Ledger>(
         Node::Field(leaf) => leaf_turn(leaf, p, dir, end, steps),
         Node::Ical(leaf) => leaf_turn(leaf, p, dir, end, steps),
         Node::Joined(_, a, b) => either_turn(a, b, p, dir, end, steps),
-        Node::Not(a) => next_turn(a, p, dir, end, steps),
-        Node::During(a, seconds) => {
+        Node::Pairs(a, b) => either_turn(a, b, p, dir, end, steps),
+        Node::Unary(op, a) => unary_turn(*op, a, p, dir, end, steps),
+    }
+}
+
+/// The nearest turn of what is made of the set.
+#[cycle(next_turn)]
+fn unary_turn<L: Ledger>(
+    op: UnaryOp,
+    a: &Node,
+    p: Pos,
+    dir: Dir,
+    end: Pos,
+    steps: &mut Steps<L>,
+) -> Option<Turn>
+    requires sound { IsSound (Unary op (meant_of_node a.now)) }
+    requires here { HasRoom (reach_of (Unary op (meant_of_node a.now))) p.0 }
+    requires there { HasRoom (reach_of (Unary op (meant_of_node a.now))) end.0 }
+    ensures turn { IsTurn (is_member (Unary op (meant_of_node a.now))) dir p.0 end.0 result }
+    ensures counts { StandsIfCounted
+        (is_candidate (Unary op (meant_of_node a.now))) dir result }
+    ensures counted { steps.old ≤ steps.new }
+{
+    member_laws();
+    match op {
+        UnaryOp::Not => next_turn(a, p, dir, end, steps),
+        UnaryOp::During(seconds) => {
             let near = next_turn(a, p, dir, end, steps);
-            let other = shifted_turn(a, *seconds, p, dir, end, steps);
+            let other = shifted_turn(a, seconds, p, dir, end, steps);
             nearer(dir, near, other)
         }
-        Node::Pairs(a, b) => either_turn(a, b, p, dir, end, steps),
-        Node::Starts(a) => edge_turn(a, p, dir, end, steps),
-        Node::Ends(a) => edge_turn(a, p, dir, end, steps),
-        Node::Shift(a, seconds) => shifted_turn(a, *seconds, p, dir, end, steps),
+        UnaryOp::Starts => edge_turn(a, p, dir, end, steps),
+        UnaryOp::Ends => edge_turn(a, p, dir, end, steps),
+        UnaryOp::Shift(seconds) => shifted_turn(a, seconds, p, dir, end, steps),
     }
 }
 
@@ -103,19 +124,19 @@ pub(crate) fn either_turn<L: Ledger>(
 #[cycle(next_turn)]
 fn shifted_turn<L: Ledger>(
     a: &Node,
-    seconds: Seconds,
+    seconds: i64,
     p: Pos,
     dir: Dir,
     end: Pos,
     steps: &mut Steps<L>,
 ) -> Option<Turn>
     requires sound { IsSound (meant_of_node a.now) }
-    requires here { HasRoom (unsigned_abs seconds.0 + reach_of (meant_of_node a.now)) p.0 }
-    requires there { HasRoom (unsigned_abs seconds.0 + reach_of (meant_of_node a.now)) end.0 }
-    ensures turn { IsTurn (λ q. is_member (meant_of_node a.now) (q -ℤ position_of seconds.0))
+    requires here { HasRoom (unsigned_abs seconds + reach_of (meant_of_node a.now)) p.0 }
+    requires there { HasRoom (unsigned_abs seconds + reach_of (meant_of_node a.now)) end.0 }
+    ensures turn { IsTurn (λ q. is_member (meant_of_node a.now) (q -ℤ position_of seconds))
         dir p.0 end.0 result }
     ensures counts { StandsIfCounted
-        (λ q. is_candidate (meant_of_node a.now) (q -ℤ position_of seconds.0)) dir result }
+        (λ q. is_candidate (meant_of_node a.now) (q -ℤ position_of seconds)) dir result }
     ensures counted { steps.old ≤ steps.new }
 {
     match next_turn(a, earlier(p, seconds), dir, earlier(end, seconds), steps) {

@@ -1,22 +1,27 @@
 -- What is spelled so is read, whatever follows that doesn't go on with it.
-use Rattle.std.proofs.Common.{◌≡◌, ℕ, zero, suc, ◌≤◌, true, false, List, [], ◌∷◌, ◌++◌, length, Option, Some, None, refl, sym, ap, ◌∙◌, append_assoc, arith, length-append}
+use Rattle.std.proofs.Common.{◌≡◌, ℕ, ℤ, zero, suc, ◌≤◌, true, false, List, [], ◌∷◌, ◌++◌, length, Option, Some, None, refl, sym, ap, ◌∙◌, append_assoc, arith, length-append}
 use Rattle.std.proofs.lemmas.List.{append-nil}
 use Rattle.moment_core.specs.declared.joining.Op.{Op}
 use Rattle.moment_core.specs.declared.joining.Op.TheVariants as operators
+use Rattle.moment_core.specs.declared.joining.UnaryOp.{UnaryOp}
 use Rattle.expr_tokens.specs.declared.token.Word.{Word}
+use Rattle.expr_tokens.specs.declared.token.Word.TheVariants as words
 use Rattle.expr_tokens.specs.Plain.{Token}
 use Rattle.expr_tokens.specs.Plain as tokens
 use Rattle.moment_core.specs.declared.line.Stamp.{Stamp}
 use Rattle.expr_grammar.specs.declared.syntax.BinaryOp.TheVariants.{Infix, Pairs}
 use Rattle.expr_grammar.specs.declared.syntax.SpanBound.{SpanBound}
-use Rattle.expr_grammar.specs.Form.{Form, Span, Binary, Forms}
-use Rattle.expr_grammar.specs.Grammar.{Goes, ends, goes, Chain, MoreMoments, closed, more, IsLow, from_start, from_after, IsHigh, to_end, to_before, Bounds, no_bound, low_bound, high_bound, both_bounds, Leaf, empty, listed, span, rule, rrule, CallEnd, during_call, pairs_call, starts_call, ends_call, shift_call, Nested, leaf, brackets, inverse, call, IsExpr, IsAtom, Spells, one, two, nesting_limit}
+use Rattle.expr_grammar.specs.Form.{Form, Span, Unary, Binary, Forms}
+use Rattle.expr_grammar.specs.Grammar.{Goes, ends, goes, Chain, MoreMoments, closed, more, IsLow, from_start, from_after, IsHigh, to_end, to_before, Bounds, no_bound, low_bound, high_bound, both_bounds, Leaf, empty, listed, span, rule, rrule, CallEnd, unary_call, pairs_call, Nested, leaf, brackets, inverse, call, IsExpr, IsAtom, Spells, one, two, nesting_limit}
 use Rattle.expr_grammar.specs.Laws.{SpellOne}
 use Rattle.rule_core.specs.declared.part.Freq.{Freq}
 use Rattle.rule_core.specs.declared.part.Freq.TheVariants as freqs
+use Rattle.expr_grammar.specs.Calls.{number_end_tokens, takes_expression, unary_named}
 use Rattle.expr_grammar.specs.Fields.{freq_word}
+use Rattle.moment_core.specs.Texts.{◌>>=◌}
+use Rattle.expr_grammar.proofs.Parts.{found}
 use Rattle.expr_grammar.proofs.Rules.{rule_complete}
-use Rattle.expr_grammar.specs.Parsing.{list_at, Read, same, stands, chain_from, chain_at, expr_at, moments_at, close_at, high_end_at, low_end_at, span_at, rrule_at, rule_at, leaf_at, takes_expression, pairs_end_at, call_end_at, call_at, nested_at, atom_at, second_at, program_end_at, program_at}
+use Rattle.expr_grammar.specs.Parsing.{list_at, Read, same, stands, chain_from, chain_at, expr_at, moments_at, close_at, high_end_at, low_end_at, span_at, rrule_at, rule_at, leaf_at, pairs_end_at, call_end_at, call_at, unary_end_at, nested_at, atom_at, second_at, program_end_at, program_at}
 
 -- what is spelled so is read, where the rest doesn't go on with it
 abbrev pub IsComplete : (Form → List Token → Type 0) → (List Token → Read) → (List Token → Type 0) → Type 0
@@ -133,6 +138,11 @@ rule_takes_none freqs.Hourly = refl
 rule_takes_none freqs.Minutely = refl
 rule_takes_none freqs.Secondly = refl
 
+unary_takes : (name : Word) (number : Option ℤ) (op : UnaryOp)
+    → unary_named name number ≡ Some op → takes_expression name ≡ true
+unary_takes words.Span number op e = absurd cc
+unary_takes name number op e = cc
+
 module _ (Whole Atom : Form → List Token → Type 0) (whole_at atom : List Token → Read) (whole_complete : IsComplete Whole whole_at StopsAll) (atom_is_complete : IsComplete Atom atom (λ _. Unit {0})) where
   -- no other case of an atom begins as a leaf does
   leaf_case : (t : Form) (front rest : List Token) → Leaf t front → nested_at whole_at atom (front ++ rest) ≡ leaf_at (front ++ rest)
@@ -154,13 +164,34 @@ module _ (Whole Atom : Form → List Token → Type 0) (whole_at atom : List Tok
   pairs_complete a b ts rest spelled =
       rw (append_assoc ts (tokens.Close ∷ []) rest, whole_complete b ts (tokens.Close ∷ rest) spelled (record { union = refl; minus = refl; meet = refl })) refl
 
+  number_stops : (number : Option ℤ) (rest : List Token)
+      → StopsAll (number_end_tokens number ++ rest)
+  number_stops None rest = record { union = refl; minus = refl; meet = refl }
+  number_stops (Some n) rest = record { union = refl; minus = refl; meet = refl }
+
+  op_complete : (name : Word) (number : Option ℤ) (op : UnaryOp) (rest : List Token)
+      → unary_named name number ≡ Some op
+      → unary_end_at name (number_end_tokens number ++ rest) ≡ found op rest
+  unfolding unary_end_at
+  op_complete name None op rest named = rw named refl
+  op_complete name (Some n) op rest named = rw named refl
+
+  unary_complete : (a : Form) (name : Word) (number : Option ℤ) (op : UnaryOp) (rest : List Token)
+      → unary_named name number ≡ Some op
+      → call_end_at whole_at name a (number_end_tokens number ++ rest) ≡ Some (Unary op a, rest)
+  unfolding call_end_at
+  unary_complete a words.Pairs number op rest named = absurd cc
+  unary_complete a name number op rest named =
+      ap (λ o. o >>= λ x. Some (Unary x.0 a, x.1)) (op_complete name number op rest named)
+
   end_complete : (a t : Form) (name : Word) (us rest : List Token) → CallEnd Whole a name t us → Ends a t name us rest
   unfolding call_end_at
-  end_complete a t name us rest (during_call n) = record { takes = refl; stops = record { union = refl; minus = refl; meet = refl }; read = refl }
+  end_complete a t name us rest (unary_call _ number op named) = record {
+    takes = unary_takes name number op named;
+    stops = number_stops number rest;
+    read = unary_complete a name number op rest named;
+  }
   end_complete a t name us rest (pairs_call b ts spelled) = record { takes = refl; stops = record { union = refl; minus = refl; meet = refl }; read = pairs_complete a b ts rest spelled }
-  end_complete a t name us rest starts_call = record { takes = refl; stops = record { union = refl; minus = refl; meet = refl }; read = refl }
-  end_complete a t name us rest ends_call = record { takes = refl; stops = record { union = refl; minus = refl; meet = refl }; read = refl }
-  end_complete a t name us rest (shift_call n) = record { takes = refl; stops = record { union = refl; minus = refl; meet = refl }; read = refl }
 
   call_complete : (a t : Form) (name : Word) (ts us rest : List Token) → Whole a ts → Ends a t name us rest → call_at whole_at name ((ts ++ us) ++ rest) ≡ Some (t, rest)
   unfolding call_at

@@ -11,7 +11,7 @@ use Rattle.expr_grammar.specs.declared.syntax.BinaryOp.TheVariants.{Infix}
 use Rattle.expr_grammar.specs.declared.syntax.SpanBound.{SpanBound}
 use Rattle.expr_grammar.specs.Fields.{fields_tokens, field_tokens}
 use Rattle.expr_grammar.specs.Form.{FieldForm, Values, Start, Form, Binary, Forms}
-use Rattle.expr_grammar.specs.Grammar.{Goes, ends, goes, Chain, MoreMoments, closed, more, IsLow, from_start, from_after, IsHigh, to_end, to_before, Bounds, no_bound, low_bound, high_bound, both_bounds, Leaf, empty, listed, span, rule, rrule, CallEnd, during_call, pairs_call, starts_call, ends_call, shift_call, Nested, leaf, brackets, inverse, call, IsExpr, IsAtom, Spells, one, two, nesting_limit}
+use Rattle.expr_grammar.specs.Grammar.{Goes, ends, goes, Chain, MoreMoments, closed, more, IsLow, from_start, from_after, IsHigh, to_end, to_before, Bounds, no_bound, low_bound, high_bound, both_bounds, Leaf, empty, listed, span, rule, rrule, CallEnd, unary_call, pairs_call, Nested, leaf, brackets, inverse, call, IsExpr, IsAtom, Spells, one, two, nesting_limit}
 use Rattle.expr_grammar.specs.Made.{HasMoment, BoundHas, FieldHas, IsMade, AreMade}
 use Rattle.moment_core.proofs.Lists.{all_front, all_behind}
 
@@ -73,11 +73,8 @@ module _ (P : Option Stamp → Type 0) where
       (chain_made (Chain Atom operators.Meet) operators.Minus (chain_made Atom operators.Meet keeps))
 
   end_made : (Whole : Form → List Token → Type 0) → Keeps Whole → (a t : Form) (name : Word) (ts : List Token) → CallEnd Whole a name t ts → IsMade P a → Dates ts → IsMade P t
-  end_made Whole whole a t name ts (during_call n) made h = made
+  end_made Whole whole a t name ts (unary_call _ number op named) made h = made
   end_made Whole whole a t name ts (pairs_call b inner spelled) made h = (made, whole b inner spelled (all_front (HasMoment P) inner (tokens.Close ∷ []) h.1))
-  end_made Whole whole a t name ts starts_call made h = made
-  end_made Whole whole a t name ts ends_call made h = made
-  end_made Whole whole a t name ts (shift_call n) made h = made
 
   nested_made : (Whole Atom : Form → List Token → Type 0) → Keeps Whole → Keeps Atom → Keeps (Nested Whole Atom)
   nested_made Whole Atom whole atom t ts (leaf _ _ spelled) h = leaf_made t ts spelled h

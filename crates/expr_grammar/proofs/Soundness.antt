@@ -1,5 +1,5 @@
 -- What is read is spelled so.
-use Rattle.std.proofs.Common.{◌≡◌, eqb, ℕ, zero, suc, Bool, true, false, cond, List, [], ◌∷◌, ◌++◌, length, drop, Option, Some, None, refl, sym, ap, subst, ◌∙◌, append_assoc}
+use Rattle.std.proofs.Common.{◌≡◌, eqb, ℕ, ℤ, zero, suc, Bool, true, false, cond, List, [], ◌∷◌, ◌++◌, length, drop, Option, Some, None, refl, sym, ap, subst, ◌∙◌, append_assoc}
 use Rattle.std.proofs.lemmas.Bool.{eqb-true}
 use Rattle.std.proofs.lemmas.List.{append-nil, nil_from_length}
 use Rattle.moment_core.specs.declared.joining.Op.{Op}
@@ -12,11 +12,12 @@ use Rattle.expr_tokens.specs.Plain as tokens
 use Rattle.moment_core.specs.declared.line.Stamp.{Stamp}
 use Rattle.expr_grammar.specs.declared.syntax.BinaryOp.TheVariants.{Infix, Pairs}
 use Rattle.expr_grammar.specs.declared.syntax.SpanBound.{SpanBound}
-use Rattle.expr_grammar.specs.declared.syntax.UnaryOp.{UnaryOp}
-use Rattle.expr_grammar.specs.declared.syntax.UnaryOp.TheVariants.{Inverse, During, Starts, Ends, Shift}
+use Rattle.moment_core.specs.declared.joining.UnaryOp.{UnaryOp}
+use Rattle.moment_core.specs.declared.joining.UnaryOp.TheVariants.{Not}
 use Rattle.expr_grammar.specs.Form.{Form, Empty, Listed, Span, Rrule, Unary, Binary, Forms}
-use Rattle.expr_grammar.specs.Grammar.{Goes, ends, goes, Chain, MoreMoments, closed, more, IsLow, from_start, from_after, IsHigh, to_end, to_before, Bounds, no_bound, low_bound, high_bound, both_bounds, Leaf, empty, listed, span, rule, rrule, rrule_tokens, CallEnd, during_call, pairs_call, starts_call, ends_call, shift_call, Nested, leaf, brackets, inverse, call, IsExpr, IsAtom, Spells, one, two, nesting_limit}
-use Rattle.expr_grammar.specs.Parsing.{Read, same, stands, chain_from, chain_at, expr_at, moments_at, list_at, close_at, high_at, high_end_at, low_end_at, span_at, rrule_at, leaf_at, takes_expression, name_at, unary_end_at, pairs_end_at, call_end_at, call_at, call_or_leaf, nested_at, atom_at, second_at, program_end_at, program_at}
+use Rattle.expr_grammar.specs.Grammar.{Goes, ends, goes, Chain, MoreMoments, closed, more, IsLow, from_start, from_after, IsHigh, to_end, to_before, Bounds, no_bound, low_bound, high_bound, both_bounds, Leaf, empty, listed, span, rule, rrule, rrule_tokens, CallEnd, unary_call, pairs_call, Nested, leaf, brackets, inverse, call, IsExpr, IsAtom, Spells, one, two, nesting_limit}
+use Rattle.expr_grammar.specs.Parsing.{Read, same, stands, chain_from, chain_at, expr_at, moments_at, list_at, close_at, high_at, high_end_at, low_end_at, span_at, rrule_at, leaf_at, number_end_at, name_at, unary_end_at, pairs_end_at, call_end_at, call_at, call_or_leaf, nested_at, atom_at, second_at, program_end_at, program_at}
+use Rattle.expr_grammar.specs.Calls.{number_end_tokens, takes_expression, unary_named}
 use Rattle.expr_grammar.specs.Fields.{rule_tokens}
 use Rattle.expr_grammar.proofs.Rules.{TakesRule, rule_sound}
 use Rattle.expr_grammar.proofs.Parts.{along, bind_some, found, read_is, some_is}
@@ -244,18 +245,27 @@ module _ (Whole Atom : Form → List Token → Type 0) (whole_at atom : List Tok
   leaf_case : (ts : List Token) (t : Form) (rest : List Token) → leaf_at ts ≡ Some (t, rest) → Takes (Nested Whole Atom) ts t rest
   leaf_case ts t rest e = let x = leaf_sound ts t rest e in record { front = x.front; whole = x.whole; spelled = leaf t x.front x.spelled }
 
+  number_is : (ts : List Token) (number : Option ℤ) (rest : List Token)
+      → number_end_at ts ≡ Some (number, rest) → ts ≡ number_end_tokens number ++ rest
+  number_is (tokens.Close ∷ ts) number rest e =
+      along (λ n r. tokens.Close ∷ ts ≡ number_end_tokens n ++ r) None number ts rest e refl
+  number_is (tokens.Comma ∷ tokens.Number n ∷ tokens.Close ∷ ts) number rest e =
+      along (λ m r. tokens.Comma ∷ tokens.Number n ∷ tokens.Close ∷ ts ≡ number_end_tokens m ++ r)
+      (Some n) number ts rest e refl
+  number_is ts number rest e = absurd cc
+
   unary_end_sound : (a : Form) (name : Word) (ts : List Token) (op : UnaryOp) (rest : List Token) → unary_end_at name ts ≡ Some (op, rest) → Takes (CallEnd Whole a name) ts (Unary op a) rest
-  unary_end_sound a words.During (tokens.Comma ∷ tokens.Number n ∷ tokens.Close ∷ ts) op rest e =
-      along (λ o r. Takes (CallEnd Whole a words.During) (tokens.Comma ∷ tokens.Number n ∷ tokens.Close ∷ ts) (Unary o a) r) (During n) op ts rest e
-      (record { front = tokens.Comma ∷ tokens.Number n ∷ tokens.Close ∷ []; whole = refl; spelled = during_call n })
-  unary_end_sound a words.Starts (tokens.Close ∷ ts) op rest e =
-      along (λ o r. Takes (CallEnd Whole a words.Starts) (tokens.Close ∷ ts) (Unary o a) r) Starts op ts rest e (record { front = tokens.Close ∷ []; whole = refl; spelled = starts_call })
-  unary_end_sound a words.Ends (tokens.Close ∷ ts) op rest e =
-      along (λ o r. Takes (CallEnd Whole a words.Ends) (tokens.Close ∷ ts) (Unary o a) r) Ends op ts rest e (record { front = tokens.Close ∷ []; whole = refl; spelled = ends_call })
-  unary_end_sound a words.Shift (tokens.Comma ∷ tokens.Number n ∷ tokens.Close ∷ ts) op rest e =
-      along (λ o r. Takes (CallEnd Whole a words.Shift) (tokens.Comma ∷ tokens.Number n ∷ tokens.Close ∷ ts) (Unary o a) r) (Shift n) op ts rest e
-      (record { front = tokens.Comma ∷ tokens.Number n ∷ tokens.Close ∷ []; whole = refl; spelled = shift_call n })
-  unary_end_sound a name ts op rest e = absurd cc
+  unfolding unary_end_at
+  unary_end_sound a name ts op rest e =
+      let made = λ (y : Option ℤ × List Token). unary_named name y.0 >>= λ o. Some (o, y.1) in
+      let x = bind_some (number_end_at ts) made (op, rest) e in
+      let y = bind_some (unary_named name x.0.0) (λ o. Some (o, x.0.1)) (op, rest) x.2 in
+      along (λ o r. Takes (CallEnd Whole a name) ts (Unary o a) r) y.0 op x.0.1 rest y.2
+      (record {
+        front = number_end_tokens x.0.0;
+        whole = number_is ts x.0.0 x.0.1 x.1;
+        spelled = unary_call name x.0.0 y.0 y.1;
+      })
 
   pairs_end_sound : (a : Form) (ts : List Token) (t : Form) (rest : List Token) → pairs_end_at whole_at a ts ≡ Some (t, rest) → Takes (CallEnd Whole a words.Pairs) ts t rest
   unfolding pairs_end_at
@@ -314,9 +324,9 @@ module _ (Whole Atom : Form → List Token → Type 0) (whole_at atom : List Tok
         spelled = brackets t inner.front (subst (λ (y : Form). Whole y inner.front) end.0 inner.spelled);
       }
   nested_sound (tokens.Exclamation ∷ ts) t rest e =
-      let x = bind_some (atom ts) (λ a. Some (Unary Inverse a.0, a.1)) (t, rest) e in
+      let x = bind_some (atom ts) (λ a. Some (Unary Not a.0, a.1)) (t, rest) e in
       let inner = atom_is_sound ts x.0.0 x.0.1 x.1 in
-      along (Takes (Nested Whole Atom) (tokens.Exclamation ∷ ts)) (Unary Inverse x.0.0) t x.0.1 rest x.2
+      along (Takes (Nested Whole Atom) (tokens.Exclamation ∷ ts)) (Unary Not x.0.0) t x.0.1 rest x.2
       (record { front = tokens.Exclamation ∷ inner.front; whole = ap (λ (y : List Token). tokens.Exclamation ∷ y) inner.whole; spelled = inverse x.0.0 inner.front inner.spelled })
   nested_sound ts t rest e = call_or_leaf_sound (name_at ts) ts t rest refl e
 

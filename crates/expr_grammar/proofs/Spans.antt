@@ -1,9 +1,11 @@
 -- As many names `span` stand among the tokens as there are spans in what they spell.
-use Rattle.std.proofs.Common.{◌≡◌, ℕ, zero, suc, ◌+◌, ℤ, List, [], ◌∷◌, ◌++◌, Option, refl, ap, ◌∙◌, arith}
+use Rattle.std.proofs.Common.{◌≡◌, ℕ, zero, suc, ◌+◌, ℤ, List, [], ◌∷◌, ◌++◌, Option, Some, None, refl, ap, ◌∙◌, arith}
 use Rattle.moment_core.specs.declared.line.Stamp.{Stamp}
 use Rattle.moment_core.specs.declared.joining.Op.{Op}
 use Rattle.moment_core.specs.declared.joining.Op.TheVariants as operators
+use Rattle.moment_core.specs.declared.joining.UnaryOp.{UnaryOp}
 use Rattle.expr_tokens.specs.declared.token.Word.{Word}
+use Rattle.expr_tokens.specs.declared.token.Word.TheVariants as words
 use Rattle.expr_tokens.specs.Plain.{Token}
 use Rattle.expr_tokens.specs.Plain as tokens
 use Rattle.expr_grammar.specs.declared.syntax.BinaryOp.TheVariants.{Infix}
@@ -12,11 +14,12 @@ use Rattle.rule_core.specs.declared.part.Freq.{Freq}
 use Rattle.rule_core.specs.declared.part.Freq.TheVariants as freqs
 use Rattle.expr_grammar.specs.declared.syntax.Key.{Key}
 use Rattle.expr_grammar.specs.declared.syntax.Key.TheVariants as keys
+use Rattle.expr_grammar.specs.Calls.{unary_named}
 use Rattle.expr_grammar.specs.Fields.{field_tokens, fields_tokens, freq_word, key_word, more_numbers}
 use Rattle.expr_grammar.specs.Form.{FieldForm, Values, Start, Form, Binary}
 use Rattle.expr_grammar.specs.Laws.{SpansAreNamed}
 use Rattle.expr_grammar.specs.Spans.{all_names, names, spans_in}
-use Rattle.expr_grammar.specs.Grammar.{Goes, ends, goes, Chain, MoreMoments, closed, more, IsLow, from_start, from_after, IsHigh, to_end, to_before, Bounds, no_bound, low_bound, high_bound, both_bounds, Leaf, empty, listed, span, rule, rrule, CallEnd, during_call, pairs_call, starts_call, ends_call, shift_call, Nested, leaf, brackets, inverse, call, IsExpr, IsAtom, one, two, nesting_limit}
+use Rattle.expr_grammar.specs.Grammar.{Goes, ends, goes, Chain, MoreMoments, closed, more, IsLow, from_start, from_after, IsHigh, to_end, to_before, Bounds, no_bound, low_bound, high_bound, both_bounds, Leaf, empty, listed, span, rule, rrule, CallEnd, unary_call, pairs_call, Nested, leaf, brackets, inverse, call, IsExpr, IsAtom, one, two, nesting_limit}
 
 names_append : (xs ys : List Token) → all_names (xs ++ ys) ≡ all_names xs + all_names ys
 names_append [] ys = omega arith
@@ -98,13 +101,18 @@ expr_names Atom counts =
     (chain_names (Chain Atom operators.Meet) operators.Minus (chain_names Atom operators.Meet counts))
 
 -- a call's own name is no `span`
+unary_unspanned : (name : Word) (number : Option ℤ) (op : UnaryOp)
+    → unary_named name number ≡ Some op → names (tokens.Word name) ≡ 0
+unary_unspanned words.Span number op e = absurd cc
+unary_unspanned name number op e = refl
+
 end_names : (Whole : Form → List Token → Type 0) → Counts Whole → (a t : Form) (name : Word) (ts : List Token) → CallEnd Whole a name t ts
     → names (tokens.Word name) + (spans_in a + all_names ts) ≡ spans_in t
-end_names Whole whole a t name ts (during_call n) = omega arith
+end_names Whole whole a t name ts (unary_call _ None op named) =
+    omega (arith, unary_unspanned name None op named)
+end_names Whole whole a t name ts (unary_call _ (Some n) op named) =
+    omega (arith, unary_unspanned name (Some n) op named)
 end_names Whole whole a t name ts (pairs_call b inner spelled) = omega (arith, names_append inner (tokens.Close ∷ []), whole b inner spelled)
-end_names Whole whole a t name ts starts_call = omega arith
-end_names Whole whole a t name ts ends_call = omega arith
-end_names Whole whole a t name ts (shift_call n) = omega arith
 
 nested_names : (Whole Atom : Form → List Token → Type 0) → Counts Whole → Counts Atom → Counts (Nested Whole Atom)
 nested_names Whole Atom whole atom t ts (leaf _ _ spelled) = leaf_names t ts spelled

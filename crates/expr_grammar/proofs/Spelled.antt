@@ -1,5 +1,5 @@
 -- The tokens of the printed form spell the expression.
-use Rattle.std.proofs.Common.{◌≡◌, ℕ, zero, suc, ◌≤◌, ◌<◌, Bool, true, false, List, [], ◌∷◌, ◌++◌, Option, Some, None, refl, sym, ap, arith}
+use Rattle.std.proofs.Common.{◌≡◌, ℕ, ℤ, zero, suc, ◌≤◌, ◌<◌, Bool, true, false, List, [], ◌∷◌, ◌++◌, Option, Some, None, refl, sym, ap, arith}
 use Rattle.std.proofs.lemmas.List.{append-nil}
 use Rattle.moment_core.specs.declared.line.Stamp.{Stamp}
 use Rattle.moment_core.specs.declared.joining.Op.{Op}
@@ -10,13 +10,14 @@ use Rattle.expr_tokens.specs.Plain.{Token}
 use Rattle.expr_tokens.specs.Plain as tokens
 use Rattle.expr_grammar.specs.declared.syntax.BinaryOp.TheVariants.{Infix, Pairs}
 use Rattle.expr_grammar.specs.declared.syntax.SpanBound.{SpanBound}
-use Rattle.expr_grammar.specs.declared.syntax.UnaryOp.{UnaryOp}
-use Rattle.expr_grammar.specs.declared.syntax.UnaryOp.TheVariants.{Inverse, During, Starts, Ends, Shift}
+use Rattle.moment_core.specs.declared.joining.UnaryOp.{UnaryOp}
+use Rattle.moment_core.specs.declared.joining.UnaryOp.TheVariants.{Not}
 use Rattle.expr_grammar.specs.Form.{Form, Empty, Listed, Span, Rule, Rrule, Unary, Binary}
+use Rattle.expr_grammar.specs.Calls.{call_of, number_end_tokens, unary_named}
 use Rattle.expr_grammar.specs.Fields.{rule_tokens}
-use Rattle.expr_grammar.specs.Grammar.{ends, goes, Chain, MoreMoments, closed, more, IsLow, from_start, from_after, IsHigh, to_end, to_before, Bounds, no_bound, low_bound, high_bound, both_bounds, Leaf, empty, listed, span, rule, rrule, rrule_tokens, CallEnd, during_call, pairs_call, starts_call, ends_call, shift_call, leaf, brackets, inverse, call, IsExpr, IsAtom, Spells, one, two, nesting_limit}
+use Rattle.expr_grammar.specs.Grammar.{ends, goes, Chain, MoreMoments, closed, more, IsLow, from_start, from_after, IsHigh, to_end, to_before, Bounds, no_bound, low_bound, high_bound, both_bounds, Leaf, empty, listed, span, rule, rrule, rrule_tokens, CallEnd, unary_call, pairs_call, leaf, brackets, inverse, call, IsExpr, IsAtom, Spells, one, two, nesting_limit}
 use Rattle.expr_grammar.specs.Laws.{PrintedIsSpelled}
-use Rattle.expr_grammar.specs.Nesting.{is_joined, AsOperand, OneDeeper, NestsWithin, height, HasTokens, in_brackets, more_tokens, low_word, high_word, bounds_tokens, spelled, spelled_second, IsPrintableForm, IsPrintableSecond}
+use Rattle.expr_grammar.specs.Nesting.{is_joined, AsOperand, TakenBy, OneDeeper, NestsWithin, height, HasTokens, in_brackets, more_tokens, low_word, high_word, bounds_tokens, unary_tokens, spelled, spelled_second, IsPrintableForm, IsPrintableSecond}
 
 module _ (Operand : Form → List Token → Type 0) (op : Op) where
   pub alone : (t : Form) (ts : List Token) → Operand t ts → Chain Operand op t ts
@@ -77,7 +78,7 @@ operand_spelled t depth below nests =
     ] in
     go (is_joined t) refl nests
 
-inverse_atom : (t : Form) (ts : List Token) (inner depth : ℕ) → depth ≡ suc inner → IsAtom inner t ts → IsAtom depth (Unary Inverse t) (tokens.Exclamation ∷ ts)
+inverse_atom : (t : Form) (ts : List Token) (inner depth : ℕ) → depth ≡ suc inner → IsAtom inner t ts → IsAtom depth (Unary Not t) (tokens.Exclamation ∷ ts)
 unfolding IsAtom
 inverse_atom t ts inner depth e h = rw e (inverse t ts h)
 
@@ -86,9 +87,25 @@ call_atom : (name : Word) (a t : Form) (ts us : List Token) (inner depth : ℕ) 
 unfolding IsAtom
 call_atom name a t ts us inner depth e h end = rw e (call name a t ts us h end)
 
-unary_atom : (op : UnaryOp) (name : Word) (a : Form) (us : List Token) (depth : ℕ) → ((d : ℕ) → NestsWithin a d → IsSpelled a d) → (nests : OneDeeper (NestsWithin a) depth)
-    → CallEnd (IsExpr (IsAtom nests.0)) a name (Unary op a) us → IsAtom depth (Unary op a) (tokens.Word name ∷ tokens.Open ∷ spelled a ++ us)
-unary_atom op name a us depth below nests end = call_atom name a (Unary op a) (spelled a) us nests.0 depth nests.1 (below nests.0 nests.2).expr end
+-- the sign stands for the operator, or the call does
+abbrev IsWrittenBy : UnaryOp → Option (Word × Option ℤ) → Type 0
+IsWrittenBy op None = op ≡ Not
+IsWrittenBy op (Some by) = unary_named by.0 by.1 ≡ Some op
+
+written_by : (op : UnaryOp) → IsWrittenBy op (call_of op)
+written_by Not = refl
+written_by op = refl
+
+unary_atom : (op : UnaryOp) (by : Option (Word × Option ℤ)) (a : Form) (depth : ℕ)
+    → IsWrittenBy op by → ((d : ℕ) → NestsWithin a d → IsSpelled a d)
+    → OneDeeper (TakenBy by (is_joined a) (NestsWithin a)) depth
+    → IsAtom depth (Unary op a) (unary_tokens by (is_joined a) (spelled a))
+unary_atom op None a depth is below nests =
+    let operand = operand_spelled a nests.0 below nests.2 in
+    rw is (inverse_atom a (in_brackets (is_joined a) (spelled a)) nests.0 depth nests.1 operand)
+unary_atom op (Some by) a depth is below nests =
+    call_atom by.0 a (Unary op a) (spelled a) (number_end_tokens by.1) nests.0 depth nests.1
+    (below nests.0 nests.2).expr (unary_call by.0 by.1 op is)
 
 more_spelled : (ms : List (Option Stamp)) → MoreMoments ms (more_tokens ms)
 more_spelled [] = closed
@@ -129,14 +146,9 @@ is_spelled (Binary (Infix op) a b) depth full nests =
 is_spelled (Binary Pairs a b) depth full nests =
     let end = pairs_call b (spelled b) (is_spelled b nests.0 full.1 nests.2.1).expr in
     from_atom (Binary Pairs a b) depth (call_atom words.Pairs a (Binary Pairs a b) (spelled a) (tokens.Comma ∷ spelled b ++ tokens.Close ∷ []) nests.0 depth nests.1 (is_spelled a nests.0 full.0 nests.2.0).expr end)
-is_spelled (Unary (During n) a) depth full nests =
-    from_atom (Unary (During n) a) depth (unary_atom (During n) words.During a (tokens.Comma ∷ tokens.Number n ∷ tokens.Close ∷ []) depth (λ d h. is_spelled a d full h) nests (during_call n))
-is_spelled (Unary Starts a) depth full nests = from_atom (Unary Starts a) depth (unary_atom Starts words.Starts a (tokens.Close ∷ []) depth (λ d h. is_spelled a d full h) nests starts_call)
-is_spelled (Unary Ends a) depth full nests = from_atom (Unary Ends a) depth (unary_atom Ends words.Ends a (tokens.Close ∷ []) depth (λ d h. is_spelled a d full h) nests ends_call)
-is_spelled (Unary (Shift n) a) depth full nests =
-    from_atom (Unary (Shift n) a) depth (unary_atom (Shift n) words.Shift a (tokens.Comma ∷ tokens.Number n ∷ tokens.Close ∷ []) depth (λ d h. is_spelled a d full h) nests (shift_call n))
-is_spelled (Unary Inverse t) depth full nests =
-    from_atom (Unary Inverse t) depth (inverse_atom t (in_brackets (is_joined t) (spelled t)) nests.0 depth nests.1 (operand_spelled t nests.0 (λ d h. is_spelled t d full h) nests.2))
+is_spelled (Unary op a) depth full nests =
+    let below = λ (d : ℕ) (h : NestsWithin a d). is_spelled a d full h in
+    from_atom (Unary op a) depth (unary_atom op (call_of op) a depth (written_by op) below nests)
 
 height_positive : (t : Form) → 0 < height t
 unfolding height
@@ -153,6 +165,11 @@ pub record IsShallow (t : Form) (depth : ℕ) : Type 0 where
   pub alone : NestsWithin t depth
   pub operand : AsOperand (is_joined t) (NestsWithin t) depth
 
+shallow_one : (by : Option (Word × Option ℤ)) (t : Form) (depth : ℕ) → IsShallow t depth
+    → TakenBy by (is_joined t) (NestsWithin t) depth
+shallow_one None t depth h = h.operand
+shallow_one (Some by) t depth h = h.alone
+
 pub is_shallow : (t : Form) (depth : ℕ) → height t ≤ suc depth → IsShallow t depth
 unfolding NestsWithin height
 is_shallow Empty depth le = record { alone = tt; operand = tt }
@@ -161,13 +178,9 @@ is_shallow (Span a b) depth le = record { alone = tt; operand = tt }
 is_shallow (Rule freq fields) depth le = record { alone = tt; operand = tt }
 is_shallow (Rrule text start) depth le = record { alone = tt; operand = tt }
 is_shallow (Unary op t) zero le = absurd (omega (arith, height_positive t, le))
-is_shallow (Unary Inverse t) (suc depth) le =
-    let inner : height t ≤ suc depth = omega (arith, le) in
-    let h : NestsWithin (Unary Inverse t) (suc depth) = (depth, refl, (is_shallow t depth inner).operand) in
-    record { alone = h; operand = h }
 is_shallow (Unary op t) (suc depth) le =
-    let inner : height t ≤ suc depth = omega (arith, le) in
-    let h : NestsWithin (Unary op t) (suc depth) = (depth, refl, (is_shallow t depth inner).alone) in
+    let below = shallow_one (call_of op) t depth (is_shallow t depth (omega (arith, le))) in
+    let h : NestsWithin (Unary op t) (suc depth) = (depth, refl, below) in
     record { alone = h; operand = h }
 is_shallow (Binary op a b) zero le = absurd (omega (arith, height_positive a, le))
 is_shallow (Binary (Infix op) a b) (suc depth) le =

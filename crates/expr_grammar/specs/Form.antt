@@ -5,7 +5,7 @@ use Rattle.rule_core.specs.declared.part.Freq.{Freq}
 use Rattle.expr_grammar.specs.declared.syntax.BinaryOp.{BinaryOp}
 use Rattle.expr_grammar.specs.declared.syntax.Key.{Key}
 use Rattle.expr_grammar.specs.declared.syntax.SpanBound.{SpanBound}
-use Rattle.expr_grammar.specs.declared.syntax.UnaryOp.{UnaryOp}
+use Rattle.moment_core.specs.declared.joining.UnaryOp.{UnaryOp}
 
 -- a key and its numbers, or `start` and the stamp of its literal
 pub data FieldForm : Type 0 where

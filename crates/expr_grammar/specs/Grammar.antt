@@ -10,7 +10,9 @@ use Rattle.expr_tokens.specs.Plain.{Token}
 use Rattle.expr_tokens.specs.Plain as tokens
 use Rattle.expr_grammar.specs.declared.syntax.BinaryOp.TheVariants.{Infix, Pairs}
 use Rattle.expr_grammar.specs.declared.syntax.SpanBound.{SpanBound}
-use Rattle.expr_grammar.specs.declared.syntax.UnaryOp.TheVariants.{Inverse, During, Starts, Ends, Shift}
+use Rattle.moment_core.specs.declared.joining.UnaryOp.{UnaryOp}
+use Rattle.moment_core.specs.declared.joining.UnaryOp.TheVariants.{Not}
+use Rattle.expr_grammar.specs.Calls.{number_end_tokens, unary_named}
 use Rattle.expr_grammar.specs.Form.{FieldForm, Form, Empty, Listed, Span, Rule, Rrule, Unary, Binary, Forms}
 use Rattle.expr_grammar.specs.Fields.{AreFields, rule_tokens}
 
@@ -87,16 +89,10 @@ pub data Leaf : Form → List Token → Type 0 where
 -- expression, and the tokens up to its bracket.
 pub data CallEnd (Whole : Form → List Token → Type 0) (a : Form) : Word → Form → List Token
     → Type 0 where
-  during_call : (n : ℤ)
-      → CallEnd Whole a words.During (Unary (During n) a)
-      (tokens.Comma ∷ tokens.Number n ∷ tokens.Close ∷ [])
+  unary_call : (name : Word) (number : Option ℤ) (op : UnaryOp) → unary_named name number ≡ Some op
+      → CallEnd Whole a name (Unary op a) (number_end_tokens number)
   pairs_call : (b : Form) (ts : List Token) → Whole b ts
       → CallEnd Whole a words.Pairs (Binary Pairs a b) (tokens.Comma ∷ ts ++ tokens.Close ∷ [])
-  starts_call : CallEnd Whole a words.Starts (Unary Starts a) (tokens.Close ∷ [])
-  ends_call : CallEnd Whole a words.Ends (Unary Ends a) (tokens.Close ∷ [])
-  shift_call : (n : ℤ)
-      → CallEnd Whole a words.Shift (Unary (Shift n) a)
-      (tokens.Comma ∷ tokens.Number n ∷ tokens.Close ∷ [])
 
 -- An atom. Whole says what stands within one more pair of brackets, those of a call among them, and
 -- Atom what stands behind one more sign.
@@ -105,7 +101,7 @@ pub data Nested (Whole Atom : Form → List Token → Type 0) : Form → List To
   brackets : (t : Form) (ts : List Token) → Whole t ts
       → Nested Whole Atom t (tokens.Open ∷ ts ++ tokens.Close ∷ [])
   inverse : (t : Form) (ts : List Token) → Atom t ts
-      → Nested Whole Atom (Unary Inverse t) (tokens.Exclamation ∷ ts)
+      → Nested Whole Atom (Unary Not t) (tokens.Exclamation ∷ ts)
   call : (name : Word) (a t : Form) (ts us : List Token) → Whole a ts → CallEnd Whole a name t us
       → Nested Whole Atom t (tokens.Word name ∷ tokens.Open ∷ ts ++ us)
 

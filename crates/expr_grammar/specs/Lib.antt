@@ -1,4 +1,5 @@
 pub mod Form
+pub mod Calls
 pub mod Fields
 pub mod Syntax
 pub mod Grammar

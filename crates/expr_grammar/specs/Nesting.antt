@@ -1,6 +1,6 @@
 -- Printed expressions: which operands stand in brackets, how deep brackets and signs nest, and the
 -- tokens.
-use Rattle.std.specs.Prelude.{◌≡◌, ◌≤◌, ℕ, suc, max, Bool, true, false, List, [], ◌∷◌, ◌++◌, Option, Some, None}
+use Rattle.std.specs.Prelude.{◌≡◌, ◌≤◌, ℕ, suc, max, ℤ, Bool, true, false, List, [], ◌∷◌, ◌++◌, Option, Some, None}
 use Rattle.moment_core.specs.declared.line.Stamp.{Stamp}
 use Rattle.expr_tokens.specs.declared.token.Word.{Word}
 use Rattle.expr_tokens.specs.declared.token.Word.TheVariants as words
@@ -8,7 +8,7 @@ use Rattle.expr_tokens.specs.Plain.{Token}
 use Rattle.expr_tokens.specs.Plain as tokens
 use Rattle.expr_grammar.specs.declared.syntax.BinaryOp.TheVariants.{Infix, Pairs}
 use Rattle.expr_grammar.specs.declared.syntax.SpanBound.{SpanBound}
-use Rattle.expr_grammar.specs.declared.syntax.UnaryOp.TheVariants.{Inverse, During, Starts, Ends, Shift}
+use Rattle.expr_grammar.specs.Calls.{call_of, number_end_tokens}
 use Rattle.expr_grammar.specs.Fields.{AreFields, rule_tokens}
 use Rattle.expr_grammar.specs.Form.{Form, Empty, Listed, Span, Rule, Rrule, Unary, Binary, Forms}
 use Rattle.expr_grammar.specs.Grammar.{nesting_limit, rrule_tokens}
@@ -26,6 +26,11 @@ abbrev pub AsOperand : Bool → (ℕ → Type 0) → ℕ → Type 0
 AsOperand true Nests depth = OneDeeper Nests depth
 AsOperand false Nests depth = Nests depth
 
+-- a sign takes an operand; what a call takes stands in the call's brackets
+abbrev pub TakenBy : Option (Word × Option ℤ) → Bool → (ℕ → Type 0) → ℕ → Type 0
+TakenBy None joined Nests = AsOperand joined Nests
+TakenBy (Some call) joined Nests = Nests
+
 -- the brackets and signs of the printed form nest at most so deep, with those of each call that
 -- takes an expression
 unfoldable pub NestsWithin : Form → ℕ → Type 0
@@ -34,8 +39,8 @@ NestsWithin (Listed ms) depth = Unit {0}
 NestsWithin (Span low high) depth = Unit {0}
 NestsWithin (Rule freq fields) depth = Unit {0}
 NestsWithin (Rrule text start) depth = Unit {0}
-NestsWithin (Unary Inverse a) depth = OneDeeper (AsOperand (is_joined a) (NestsWithin a)) depth
-NestsWithin (Unary op a) depth = OneDeeper (NestsWithin a) depth
+NestsWithin (Unary op a) depth =
+    OneDeeper (TakenBy (call_of op) (is_joined a) (NestsWithin a)) depth
 NestsWithin (Binary (Infix op) a b) depth =
     AsOperand (is_joined a) (NestsWithin a) depth × AsOperand (is_joined b) (NestsWithin b) depth
 NestsWithin (Binary Pairs a b) depth =
@@ -90,6 +95,12 @@ bounds_tokens (Some a) (Some b) =
     tokens.Word (low_word a.closed) ∷ tokens.Moment a.stamp ∷ tokens.Comma
     ∷ tokens.Word (high_word b.closed) ∷ tokens.Moment b.stamp ∷ []
 
+-- a sign and its operand, or a call
+abbrev pub unary_tokens : Option (Word × Option ℤ) → Bool → List Token → List Token
+unary_tokens None joined ts = tokens.Exclamation ∷ in_brackets joined ts
+unary_tokens (Some call) joined ts =
+    tokens.Word call.0 ∷ tokens.Open ∷ ts ++ number_end_tokens call.1
+
 -- the tokens of the printed form
 unfoldable pub spelled : Form → List Token
 spelled Empty = tokens.Word words.Empty ∷ tokens.Open ∷ tokens.Close ∷ []
@@ -98,16 +109,7 @@ spelled (Rule freq fields) = rule_tokens freq fields
 spelled (Rrule text start) = rrule_tokens text start
 spelled (Span low high) =
     tokens.Word words.Span ∷ tokens.Open ∷ bounds_tokens low high ++ tokens.Close ∷ []
-spelled (Unary Inverse a) = tokens.Exclamation ∷ in_brackets (is_joined a) (spelled a)
-spelled (Unary (During n) a) =
-    tokens.Word words.During ∷ tokens.Open ∷ spelled a ++ tokens.Comma ∷ tokens.Number n
-    ∷ tokens.Close ∷ []
-spelled (Unary Starts a) =
-    tokens.Word words.Starts ∷ tokens.Open ∷ spelled a ++ tokens.Close ∷ []
-spelled (Unary Ends a) = tokens.Word words.Ends ∷ tokens.Open ∷ spelled a ++ tokens.Close ∷ []
-spelled (Unary (Shift n) a) =
-    tokens.Word words.Shift ∷ tokens.Open ∷ spelled a ++ tokens.Comma ∷ tokens.Number n
-    ∷ tokens.Close ∷ []
+spelled (Unary op a) = unary_tokens (call_of op) (is_joined a) (spelled a)
 spelled (Binary (Infix op) a b) =
     in_brackets (is_joined a) (spelled a) ++ tokens.Operator op ∷ in_brackets (is_joined b)
     (spelled b)

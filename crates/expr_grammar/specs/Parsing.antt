@@ -23,8 +23,9 @@ use Rattle.expr_grammar.specs.declared.syntax.Key.{Key}
 use Rattle.expr_grammar.specs.declared.syntax.Key.TheVariants as keys
 use Rattle.expr_grammar.specs.declared.syntax.SpanBound.{SpanBound}
 use Rattle.expr_grammar.specs.declared.syntax.SyntaxTree.{SyntaxTree}
-use Rattle.expr_grammar.specs.declared.syntax.UnaryOp.{UnaryOp}
-use Rattle.expr_grammar.specs.declared.syntax.UnaryOp.TheVariants.{Inverse, During, Starts, Ends, Shift}
+use Rattle.moment_core.specs.declared.joining.UnaryOp.{UnaryOp}
+use Rattle.moment_core.specs.declared.joining.UnaryOp.TheVariants.{Not}
+use Rattle.expr_grammar.specs.Calls.{takes_expression, unary_named}
 use Rattle.expr_grammar.specs.Syntax.{field_form, form_of}
 use Rattle.expr_grammar.specs.Fields.{is_single, same_key}
 use Rattle.expr_grammar.specs.Grammar.{nesting_limit}
@@ -235,27 +236,21 @@ leaf_at (tokens.Word words.Rrule ∷ tokens.Open ∷ ts) = rrule_at ts
 leaf_at (tokens.LeftBrace ∷ ts) = list_at ts >>= λ ms. Some (Listed ms.0, ms.1)
 leaf_at ts = rule_at ts
 
-abbrev pub takes_expression : Word → Bool
-takes_expression words.During = true
-takes_expression words.Pairs = true
-takes_expression words.Starts = true
-takes_expression words.Ends = true
-takes_expression words.Shift = true
-takes_expression w = false
-
 -- the name of a call that takes an expression, and the tokens behind its bracket
 abbrev pub name_at : List Token → Option (Word × List Token)
 name_at (tokens.Word w ∷ tokens.Open ∷ ts) = if takes_expression w then Some (w, ts) else None
 name_at ts = None
 
+-- [ "," number ] ")"
+abbrev pub number_end_at : List Token → Option (Option ℤ × List Token)
+number_end_at (tokens.Close ∷ ts) = Some (None, ts)
+number_end_at (tokens.Comma ∷ tokens.Number n ∷ tokens.Close ∷ ts) = Some (Some n, ts)
+number_end_at ts = None
+
 -- the end of a call of one expression
-abbrev pub unary_end_at : Word → List Token → Option (UnaryOp × List Token)
-unary_end_at words.During (tokens.Comma ∷ tokens.Number n ∷ tokens.Close ∷ ts) =
-    Some (During n, ts)
-unary_end_at words.Starts (tokens.Close ∷ ts) = Some (Starts, ts)
-unary_end_at words.Ends (tokens.Close ∷ ts) = Some (Ends, ts)
-unary_end_at words.Shift (tokens.Comma ∷ tokens.Number n ∷ tokens.Close ∷ ts) = Some (Shift n, ts)
-unary_end_at w ts = None
+unfoldable pub unary_end_at : Word → List Token → Option (UnaryOp × List Token)
+unary_end_at w ts =
+    number_end_at ts >>= λ x. unary_named w x.0 >>= λ op. Some (op, x.1)
 
 -- "," expr ")"
 unfoldable pub pairs_end_at : (List Token → Read) → Form → List Token → Read
@@ -277,7 +272,7 @@ call_or_leaf whole None ts = leaf_at ts
 
 unfoldable pub nested_at : (List Token → Read) → (List Token → Read) → List Token → Read
 nested_at whole atom (tokens.Open ∷ ts) = whole ts >>= λ a. close_at a.0 a.1
-nested_at whole atom (tokens.Exclamation ∷ ts) = atom ts >>= λ a. Some (Unary Inverse a.0, a.1)
+nested_at whole atom (tokens.Exclamation ∷ ts) = atom ts >>= λ a. Some (Unary Not a.0, a.1)
 nested_at whole atom ts = call_or_leaf whole (name_at ts) ts
 
 unfoldable pub atom_at : ℕ → List Token → Read

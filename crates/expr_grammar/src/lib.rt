@@ -1,6 +1,7 @@
 //! The grammar of the expression language: from tokens to syntax trees.
 #![tactic(auto)]
 
+mod calls;
 mod fault;
 mod fields;
 mod laws;
@@ -10,4 +11,4 @@ mod syntax;
 pub use fault::ParseFault;
 pub use laws::grammar_laws;
 pub use parser::{NESTING_LIMIT, parse};
-pub use syntax::{BinaryOp, Field, Key, SpanBound, SyntaxTree, SyntaxTrees, UnaryOp};
+pub use syntax::{BinaryOp, Field, Key, SpanBound, SyntaxTree, SyntaxTrees};

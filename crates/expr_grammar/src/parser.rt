@@ -4,15 +4,14 @@ ghost use Rattle.expr_grammar.specs.Form.{Form, Forms, Listed, Span};
 ghost use Rattle.expr_grammar.specs.Syntax.{HasPlaces, KeepsPlaces, form_of, forms_of, places_of, all_places_of, span_places};
 ghost use Rattle.expr_grammar.specs.Moments.{IsNextMoment};
 ghost use Rattle.expr_grammar.specs.Grammar.{SpellNothing, Spells};
-ghost use Rattle.expr_grammar.specs.Parsing.{Gives, ReadsMoments, ReadsTree, deeper_at, operands_at, stands, moment_at, list_at, moments_at, moments_end_at, with_first, close_at, high_at, high_end_at, low_end_at, span_at, rrule_at, leaf_at, atom_at, expr_at, call_at, call_end_at, name_at, nested_at, operand_at, pairs_end_at, chain_at, program_end_at, program_at, second_at, takes_expression, unary_end_at};
+ghost use Rattle.expr_grammar.specs.Parsing.{Gives, ReadsMoments, ReadsTree, deeper_at, operands_at, stands, moment_at, list_at, moments_at, moments_end_at, with_first, close_at, high_at, high_end_at, low_end_at, span_at, rrule_at, leaf_at, atom_at, expr_at, call_at, call_end_at, name_at, nested_at, operand_at, pairs_end_at, chain_at, program_end_at, program_at, second_at, unary_end_at};
 
+use crate::calls::{takes_expression, unary_named};
 use crate::fault::ParseFault;
 use crate::fields::rule;
-use crate::syntax::{
-    BinaryOp, SpanBound, SyntaxTree, SyntaxTrees, UnaryOp, binary, spanned, unary,
-};
+use crate::syntax::{BinaryOp, SpanBound, SyntaxTree, SyntaxTrees, binary, spanned, unary};
 use expr_tokens::{Token, Word};
-use moment_core::{Op, Stamp};
+use moment_core::{Op, Stamp, UnaryOp};
 use std::alloc::Global;
 
 /// The tokens behind the operator, where it stands next.
@@ -254,16 +253,6 @@ fn leaf<'t, 'a>(
     }
 }
 
-/// Whether the word is the name of a call that takes an expression.
-fn takes_expression(word: Word) -> bool
-    ensures { result ≡ takes_expression word }
-{
-    matches!(
-        word,
-        Word::During | Word::Pairs | Word::Starts | Word::Ends | Word::Shift
-    )
-}
-
 /// The name of such a call, and the tokens behind its bracket.
 fn name<'t, 'a>(tokens: &'t [Token<'a>]) -> Option<(Word, &'t [Token<'a>])>
     ensures none { IfNone result (name_at (plains tokens.now) ≡ None) }
@@ -279,7 +268,8 @@ fn name<'t, 'a>(tokens: &'t [Token<'a>]) -> Option<(Word, &'t [Token<'a>])>
     }
 }
 
-/// The end of a call of one expression.
+/// The end of a call of one expression, with the number behind it if there is one.
+#[tactic(auto, unfolding(crate::specs::Parsing::unary_end_at))]
 fn unary_end<'t, 'a>(
     name: Word,
     tokens: &'t [Token<'a>],
@@ -289,16 +279,14 @@ fn unary_end<'t, 'a>(
     ensures places { IfOk result (λ x. span_places tokens.now ≡ span_places x.1.now) }
     ensures shorter { IfOk result (λ x. length x.1.now ≤ length tokens.now) }
 {
-    match (name, tokens) {
-        (Word::Starts, [Token::Close, rest @ ..]) => Ok((UnaryOp::Starts, rest)),
-        (Word::Ends, [Token::Close, rest @ ..]) => Ok((UnaryOp::Ends, rest)),
-        (Word::During, [Token::Comma, Token::Number(n), Token::Close, rest @ ..]) => {
-            Ok((UnaryOp::During(*n), rest))
-        }
-        (Word::Shift, [Token::Comma, Token::Number(n), Token::Close, rest @ ..]) => {
-            Ok((UnaryOp::Shift(*n), rest))
-        }
-        _ => Err(ParseFault::Syntax),
+    let (number, rest) = match tokens {
+        [Token::Close, rest @ ..] => (None, rest),
+        [Token::Comma, Token::Number(n), Token::Close, rest @ ..] => (Some(*n), rest),
+        _ => return Err(ParseFault::Syntax),
+    };
+    match unary_named(name, number) {
+        Some(op) => Ok((op, rest)),
+        None => Err(ParseFault::Syntax),
     }
 }
 
@@ -404,7 +392,7 @@ fn nested<'t, 'a>(
         }
         [Token::Exclamation, inner @ ..] => {
             let (whole, rest) = atom(alloc, inner, depth)?;
-            Ok((unary(alloc, UnaryOp::Inverse, whole)?, rest))
+            Ok((unary(alloc, UnaryOp::Not, whole)?, rest))
         }
         _ => match name(tokens) {
             Some((name, inner)) => call(alloc, name, inner, depth),

@@ -2,7 +2,7 @@ ghost use Rattle.std.specs.Prelude.{◌≡◌, [], ◌∷◌, ◌++◌, IfOk};
 ghost use Rattle.expr_grammar.specs.Form.{Binary, Span, Unary};
 ghost use Rattle.expr_grammar.specs.Syntax.{form_of, places_of};
 
-use moment_core::{Op, Stamp};
+use moment_core::{Op, Stamp, UnaryOp};
 use rule_core::Freq;
 use std::alloc::{AllocError, Global};
 
@@ -36,21 +36,6 @@ pub enum Field {
     Start(Option<Stamp>),
 }
 
-/// What makes an expression of one other.
-#[derive(Clone, Copy, Debug)]
-pub enum UnaryOp {
-    /// `!` before it.
-    Inverse,
-    /// `during(.., seconds)`
-    During(i64),
-    /// `starts(..)`
-    Starts,
-    /// `ends(..)`
-    Ends,
-    /// `shift(.., seconds)`
-    Shift(i64),
-}
-
 /// What makes an expression of two others.
 #[derive(Clone, Copy, Debug)]
 pub enum BinaryOp {
@@ -80,8 +65,8 @@ pub enum SyntaxTree {
         freq: Freq,
         fields: Vec<Field>,
     },
-    /// `rrule("..", ..)`: the text of a recurrence rule of RFC 5545, and its first moment, with None
-    /// where the literal names no moment of the calendar range.
+    /// `rrule("..", ..)`: the text of a recurrence rule of RFC 5545, and its first moment, with
+    /// None where the literal names no moment of the calendar range.
     Rrule {
         text: Vec<u8>,
         start: Option<Stamp>,

@@ -11,10 +11,14 @@ use Rattle.span_core.specs.declared.bounds.Bound.{Bound}
 use Rattle.span_core.specs.declared.bounds.Bound.TheVariants.{Closed, Open, Inf, Edge}
 use Rattle.moment_core.specs.declared.joining.Op.{Op}
 use Rattle.moment_core.specs.declared.joining.Op.TheVariants.{Union, Meet, Minus}
+use Rattle.expr_tokens.specs.declared.token.Word.{Word}
+use Rattle.expr_tokens.specs.declared.token.Word.TheVariants as words
+use Rattle.expr_tokens.specs.Names.{name_of}
+use Rattle.expr_grammar.specs.Calls.{call_of}
 use Rattle.expr_print.specs.Fields.{field_rule_text}
 use Rattle.rrule_text.specs.Writing.{text_of}
 use Rattle.rule_core.specs.declared.ical.IcalRule.{IcalRule}
-use Rattle.expr_tree.specs.Tree.{Rule, Listed, Field, Ical, Tree, Empty, Spanned, Ruled, Joined, Not, During, Pairs, Starts, Ends, Shift, Trees}
+use Rattle.expr_tree.specs.Tree.{Rule, Listed, Field, Ical, Tree, Empty, Spanned, Ruled, Joined, Pairs, Unary, Trees}
 
 -- operands that are themselves joined by an operator stand in brackets
 abbrev pub is_join : Tree Rule → Bool
@@ -76,13 +80,19 @@ rule_text (Listed stamps) = codes "{" ++ stamps_text stamps ++ codes "}"
 rule_text (Field rule) = field_rule_text rule
 rule_text (Ical rule) = rrule_text rule
 
--- what stands behind the one expression of a call that has seconds
-abbrev pub seconds_text : ℤ → List ℕ
-seconds_text seconds = codes ", " ++ signed_decimal seconds
+-- the number behind the one expression of a call, if there is one
+abbrev pub number_text : Option ℤ → List ℕ
+number_text None = []
+number_text (Some n) = codes ", " ++ signed_decimal n
 
--- a call, by its name with the bracket, and what stands within
-abbrev pub call_text : List ℕ → List ℕ → List ℕ
-call_text opening within = opening ++ within ++ codes ")"
+-- a call, by its name and what stands within its brackets
+abbrev pub call_text : Word → List ℕ → List ℕ
+call_text name within = name_of name ++ codes "(" ++ within ++ codes ")"
+
+-- a sign and its operand, or a call
+abbrev pub unary_text : Option (Word × Option ℤ) → Bool → List ℕ → List ℕ
+unary_text None joined text = codes "!" ++ bracketed joined text
+unary_text (Some call) joined text = call_text call.0 (text ++ number_text call.1)
 
 unfoldable pub print : Tree Rule → List ℕ
 print Empty = codes "empty()"
@@ -92,12 +102,8 @@ print (Spanned bounds low high) =
 print (Ruled rule) = rule_text rule
 print (Joined op a b) =
     bracketed (is_join a) (print a) ++ sign_text op ++ bracketed (is_join b) (print b)
-print (Not a) = codes "!" ++ bracketed (is_join a) (print a)
-print (During a seconds) = call_text (codes "during(") (print a ++ seconds_text seconds)
-print (Pairs a b) = call_text (codes "pairs(") (print a ++ codes ", " ++ print b)
-print (Starts a) = call_text (codes "starts(") (print a)
-print (Ends a) = call_text (codes "ends(") (print a)
-print (Shift a seconds) = call_text (codes "shift(") (print a ++ seconds_text seconds)
+print (Pairs a b) = call_text words.Pairs (print a ++ codes ", " ++ print b)
+print (Unary op a) = unary_text (call_of op) (is_join a) (print a)
 
 abbrev pub operand_text : Tree Rule → List ℕ
 operand_text t = bracketed (is_join t) (print t)

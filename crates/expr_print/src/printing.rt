@@ -1,10 +1,11 @@
 ghost use Rattle.std.specs.Prelude.{◌≡◌, ◌++◌, codes, true, length, take, IfOk, OnOk};
 ghost use Rattle.std.specs.List.{All, flat_map};
 ghost use Rattle.moment_core.specs.Line.{IsCalendarMoment};
+ghost use Rattle.expr_tokens.specs.declared.token.Word.TheVariants as words;
 ghost use Rattle.expr_tree.specs.Tree.{tree_of, trees_of};
 ghost use Rattle.expr_tree.specs.WellFormed.{AreWellFormed, IsWellFormed};
 ghost use Rattle.span_core.specs.Bounds.{IsGiven};
-ghost use Rattle.expr_print.specs.Printing.{is_join, operand_text, stamp_text, next_stamp, stamps_text, low_text, high_text, moment_text, is_at_moment, comma_text, call_text, print, print_program, rrule_text, seconds_text, sign_text};
+ghost use Rattle.expr_print.specs.Printing.{is_join, operand_text, stamp_text, next_stamp, stamps_text, low_text, high_text, moment_text, is_at_moment, comma_text, call_text, number_text, print, print_program, rrule_text, sign_text};
 ghost use Rattle.rule_core.specs.WrittenForm.{IsWritable};
 
 use crate::fields::{put_number, put_rule};
@@ -127,6 +128,17 @@ fn put_rrule(out: &mut Vec<u8>, rule: &IcalRule) -> Result<(), AllocError>
     out.extend_from_slice(b")")
 }
 
+/// Puts the number behind the one expression of a call, if there is one.
+fn put_call_number(out: &mut Vec<u8>, number: Option<i64>) -> Result<(), AllocError>
+    ensures { OnOk result (out.new.items ≡ out.old.items ++ number_text number) }
+{
+    if let Some(n) = number {
+        out.extend_from_slice(b", ")?;
+        put_number(out, n)?;
+    }
+    Ok(())
+}
+
 /// The sign between two operands.
 fn sign(op: Op) -> &'static [u8]
     ensures { result.now ≡ sign_text op }
@@ -168,11 +180,11 @@ fn put(out: &mut Vec<u8>, e: &Expr) -> Result<(), AllocError>
             out.extend_from_slice(b"!")?;
             put_operand(out, a)
         }
-        Expr::During(a, seconds) => put_call_with(out, b"during(", a, *seconds),
+        Expr::During(a, seconds) => put_call(out, b"during(", a, Some(*seconds)),
         Expr::Pairs(a, b) => put_pairs(out, a, b),
-        Expr::Starts(a) => put_call(out, b"starts(", a),
-        Expr::Ends(a) => put_call(out, b"ends(", a),
-        Expr::Shift(a, seconds) => put_call_with(out, b"shift(", a, *seconds),
+        Expr::Starts(a) => put_call(out, b"starts(", a, None),
+        Expr::Ends(a) => put_call(out, b"ends(", a, None),
+        Expr::Shift(a, seconds) => put_call(out, b"shift(", a, Some(*seconds)),
     }
 }
 
@@ -190,35 +202,22 @@ fn put_infix(out: &mut Vec<u8>, op: Op, a: &Expr, b: &Expr) -> Result<(), AllocE
     put_operand(out, b)
 }
 
-/// Puts a call of one set.
+/// Puts a call of one set, with the number behind it if there is one.
 #[cycle(putting)]
-fn put_call(out: &mut Vec<u8>, opening: &[u8], a: &Expr) -> Result<(), AllocError>
-    requires { IsWellFormed (tree_of a.now) }
-    ensures { OnOk result (out.new.items
-        ≡ out.old.items ++ call_text opening.now (print (tree_of a.now))) }
-{
-    out.extend_from_slice(opening)?;
-    put(out, a)?;
-    out.extend_from_slice(b")")
-}
-
-/// Puts a call of a set and seconds.
-#[cycle(putting)]
-fn put_call_with(
+fn put_call(
     out: &mut Vec<u8>,
     opening: &[u8],
     a: &Expr,
-    seconds: i64,
+    number: Option<i64>,
 ) -> Result<(), AllocError>
     requires { IsWellFormed (tree_of a.now) }
     ensures { OnOk result (out.new.items
         ≡ out.old.items
-        ++ call_text opening.now (print (tree_of a.now) ++ seconds_text seconds)) }
+        ++ (opening.now ++ (print (tree_of a.now) ++ number_text number) ++ codes ")")) }
 {
     out.extend_from_slice(opening)?;
     put(out, a)?;
-    out.extend_from_slice(b", ")?;
-    put_number(out, seconds)?;
+    put_call_number(out, number)?;
     out.extend_from_slice(b")")
 }
 
@@ -229,7 +228,7 @@ fn put_pairs(out: &mut Vec<u8>, a: &Expr, b: &Expr) -> Result<(), AllocError>
     requires second { IsWellFormed (tree_of b.now) }
     ensures { OnOk result (out.new.items
         ≡ out.old.items
-        ++ call_text (codes "pairs(")
+        ++ call_text words.Pairs
         (print (tree_of a.now) ++ codes ", " ++ print (tree_of b.now))) }
 {
     out.extend_from_slice(b"pairs(")?;

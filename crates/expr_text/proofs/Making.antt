@@ -12,7 +12,7 @@ use Rattle.expr_grammar.specs.Syntax.{all_places_of, form_of, forms_of, places_o
 use Rattle.expr_grammar.specs.declared.syntax.BinaryOp.{BinaryOp}
 use Rattle.expr_grammar.specs.declared.syntax.SyntaxTree.{SyntaxTree}
 use Rattle.expr_grammar.specs.declared.syntax.SyntaxTrees.{SyntaxTrees}
-use Rattle.expr_grammar.specs.declared.syntax.UnaryOp.{UnaryOp}
+use Rattle.moment_core.specs.declared.joining.UnaryOp.{UnaryOp}
 use Rattle.expr_tree.specs.declared.tree.Expr.{Expr}
 use Rattle.rrule_text.specs.Fault.{Fault as RruleFault, fault_in as fault_in_rrule}
 use Rattle.rrule_text.specs.declared.fault.RruleFault.TheVariants as rrules

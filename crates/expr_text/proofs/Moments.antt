@@ -13,15 +13,13 @@ use Rattle.expr_tokens.specs.Plain as tokens
 use Rattle.expr_grammar.specs.declared.syntax.BinaryOp.{BinaryOp}
 use Rattle.expr_grammar.specs.declared.syntax.BinaryOp.TheVariants as binaries
 use Rattle.expr_grammar.specs.declared.syntax.SpanBound.{SpanBound}
-use Rattle.expr_grammar.specs.declared.syntax.UnaryOp.{UnaryOp}
-use Rattle.expr_grammar.specs.declared.syntax.UnaryOp.TheVariants as unaries
 use Rattle.expr_grammar.specs.Form.{Form, Forms}
 use Rattle.expr_grammar.specs.Form as forms
 use Rattle.expr_grammar.specs.Grammar.{Spells}
 use Rattle.expr_grammar.specs.Laws.{MomentsAreKept}
 use Rattle.expr_grammar.specs.Made.{HasMoment, BoundHas, IsDated, IsMade, AreMade}
 use Rattle.moment_core.proofs.Lists.{all_front, all_behind}
-use Rattle.expr_tree.specs.Tree.{Rule, Field, Ical, Tree, Empty, Spanned, Ruled, Trees}
+use Rattle.expr_tree.specs.Tree.{Rule, Field, Ical, Tree, Empty, Spanned, Ruled, Unary, Trees}
 use Rattle.expr_tree.specs.WellFormed.{AreWellFormed, HasClock, IsWellFormed}
 use Rattle.rule_core.specs.FieldChecks.{check_of}
 use Rattle.rule_core.specs.declared.ical.IcalRule.{IcalRule}
@@ -34,7 +32,7 @@ use Rattle.expr_text.proofs.Started.{checked, neither, started}
 use Rattle.expr_text.specs.Faults.{HasPosition, Tokens, all_spans_of, first_nameless, is_nameless, kinds_of, first_rrule_fault, first_rule_fault, rrule_fault, rule_fault, second_rrule_fault, second_rule_fault, second_spans, spans_of}
 use Rattle.expr_text.specs.Phases.{AreBoth, HasSpans, IsInRange, IsSecond}
 use Rattle.expr_text.specs.Phases.{first_nameless as nameless_in}
-use Rattle.expr_text.specs.Trees.{binary_tree, both, bound_at, bound_of, clock_at, clock_of, is_named, is_some, listed, stamps_of, tree_from, trees_from, unary_tree}
+use Rattle.expr_text.specs.Trees.{binary_tree, both, bound_at, bound_of, clock_at, clock_of, is_named, is_some, listed, stamps_of, tree_from, trees_from}
 
 dated_token : (t : Token) → IsInRange t → is_nameless t ≡ false → HasMoment IsDated t
 dated_token (tokens.Moment None) h named = absurd cc
@@ -156,13 +154,6 @@ pub record AllStand (p : Forms) : Type 0 where
   pub are : trees_from p ≡ Some trees
   pub well_formed : AreWellFormed trees
 
-unary_formed : (op : UnaryOp) (a : Tree Rule) → IsWellFormed a → IsWellFormed (unary_tree op a)
-unary_formed unaries.Inverse a h = h
-unary_formed (unaries.During seconds) a h = h
-unary_formed unaries.Starts a h = h
-unary_formed unaries.Ends a h = h
-unary_formed (unaries.Shift seconds) a h = h
-
 binary_formed : (op : BinaryOp) (a b : Tree Rule) → IsWellFormed a → IsWellFormed b → IsWellFormed (binary_tree op a b)
 binary_formed (binaries.Infix op) a b h k = (h, k)
 binary_formed binaries.Pairs a b h k = (h, k)
@@ -209,7 +200,7 @@ module _ (writable : RulesAreWritable) where
   stands (forms.Rrule text (Some s)) h spans rules = text_stands text s h rules.texts
   stands (forms.Unary op a) h spans rules =
       let x = stands a h spans (record { fields = rules.fields; texts = rules.texts }) in
-      record { tree = unary_tree op x.tree; is = rw x.is refl; well_formed = unary_formed op x.tree x.well_formed }
+      record { tree = Unary op x.tree; is = rw x.is refl; well_formed = x.well_formed }
   stands (forms.Binary op a b) h spans rules =
       let fields = neither (rule_fault a) (rule_fault b) rules.fields in
       let texts = neither (rrule_fault a) (rrule_fault b) rules.texts in

@@ -2,9 +2,9 @@
 use Rattle.std.proofs.Common.{◌≡◌, ℕ, ℤ, ◌<◌, ◌≤◌, ◌^◌, unsigned_abs, Bool, true, false, ◌&&◌, cond, List, [], ◌∷◌, ◌++◌, length, Option, Some, None, Ok, refl, sym, ap, subst, ◌∙◌, append_assoc, arith}
 use Rattle.std.specs.Prelude.{codes, option_map}
 use Rattle.std.specs.Fmt.{signed_decimal}
-use Rattle.std.specs.List.{AllByRecursion, flat_map, list_all}
-use Rattle.std.proofs.lemmas.Bool.{and_from, and_parts}
+use Rattle.std.specs.List.{AllByRecursion, flat_map}
 use Rattle.std.proofs.lemmas.Bool.Decides.{nat_tests}
+use Rattle.std.proofs.lemmas.List.{append-nil}
 use Rattle.std.proofs.lemmas.List.Concat.{flat_map-cons}
 use Rattle.std.proofs.lemmas.List.Elements.{recursion_from_All}
 use Rattle.moment_core.specs.Line.{IsCalendarMoment}
@@ -17,6 +17,8 @@ use Rattle.span_core.specs.declared.bounds.Bound.{Bound}
 use Rattle.span_core.specs.declared.bounds.Bound.TheVariants.{Closed, Open, Inf, Edge}
 use Rattle.moment_core.specs.declared.joining.Op.{Op}
 use Rattle.moment_core.specs.declared.joining.Op.TheVariants.{Union, Meet, Minus}
+use Rattle.moment_core.specs.declared.joining.UnaryOp.{UnaryOp}
+use Rattle.moment_core.specs.declared.joining.UnaryOp.TheVariants.{Not}
 use Rattle.expr_tokens.specs.declared.token.Word.{Word}
 use Rattle.expr_tokens.specs.declared.token.Word.TheVariants as words
 use Rattle.expr_tokens.specs.Plain.{Token}
@@ -38,6 +40,7 @@ use Rattle.rule_core.specs.declared.part.Freq.{Freq}
 use Rattle.rule_core.specs.declared.part.Freq.TheVariants as freqs
 use Rattle.expr_grammar.specs.declared.syntax.Key.{Key}
 use Rattle.expr_grammar.specs.declared.syntax.Key.TheVariants as keys
+use Rattle.expr_grammar.specs.Calls.{call_of, number_end_tokens}
 use Rattle.expr_grammar.specs.Fields.{field_tokens, fields_tokens, freq_word, key_word, more_numbers, rule_tokens}
 use Rattle.expr_grammar.specs.Form.{FieldForm, Values, Start}
 use Rattle.expr_tree.specs.WellFormed.{AreWellFormed, IsWellFormed}
@@ -46,17 +49,17 @@ use Rattle.expr_text.specs.Rrules.{fault_of}
 use Rattle.expr_print.specs.Fields.{interval_printed}
 use Rattle.expr_text.proofs.RulesBack.{rule_back, with_numbers, with_start, written_fields}
 use Rattle.expr_text.proofs.RuleText.{rule_lexes}
-use Rattle.expr_grammar.specs.Nesting.{bounds_tokens, high_word, in_brackets, is_joined, low_word, more_tokens, spelled, spelled_program, spelled_second}
-use Rattle.moment_core.proofs.Lists.{all_both}
+use Rattle.expr_grammar.specs.Nesting.{bounds_tokens, high_word, in_brackets, is_joined, low_word, more_tokens, spelled, spelled_program, spelled_second, unary_tokens}
+use Rattle.moment_core.proofs.Lists.{all_both, all_weaker}
 use Rattle.expr_grammar.specs.Laws.{PrintedIsSpelled}
-use Rattle.expr_tree.specs.Sorts.{reach_of}
-use Rattle.expr_tree.specs.Tree.{Rule, Listed, Field, Ical, Tree, Empty, Spanned, Ruled, Joined, Not, During, Pairs, Starts, Ends, Shift, Trees}
+use Rattle.expr_tree.specs.Sorts.{looks_past, reach_of}
+use Rattle.expr_tree.specs.Tree.{Rule, Listed, Field, Ical, Tree, Empty, Spanned, Ruled, Joined, Pairs, Unary, Trees}
 use Rattle.expr_text.specs.Accepted.{AreRead, IsRead, held, sorted, spelled as spelled_so}
 use Rattle.expr_text.specs.declared.fault.TheConstants.{LONGEST}
 use Rattle.phases.specs.Phases.{goes_on}
 use Rattle.expr_text.specs.Calls.{calls_unbuilt, names_unbuilt}
 use Rattle.expr_text.specs.Faults.{HasPosition, Tokens, first_nameless, first_rrule_fault, first_rule_fault, is_nameless, kinds_of, rrule_fault, rule_fault, second_rrule_fault, second_rule_fault, second_spans, sort_fault, spans_of}
-use Rattle.expr_print.specs.Printing.{bracketed, call_text, comma_text, high_text, is_at_moment, is_join, low_text, moment_text, next_stamp, print, print_program, print_second, rrule_text, seconds_text, sign_text, stamp_text}
+use Rattle.expr_print.specs.Printing.{bracketed, call_text, comma_text, high_text, is_at_moment, is_join, low_text, moment_text, next_stamp, number_text, print, print_program, print_second, rrule_text, sign_text, stamp_text, unary_text}
 use Rattle.expr_text.specs.Trees.{bound_of}
 use Rattle.expr_text.proofs.Places.{short_text, stand_in}
 use Rattle.expr_text.specs.Laws.{HasShortSecond, HasShortStrings}
@@ -143,9 +146,24 @@ plain_bounds Edge Edge low high = tt
 plain_joined : (op : Op) (b c : Bool) (ts us : List Token) → ArePlain ts → ArePlain us → ArePlain (in_brackets b ts ++ tokens.Operator op ∷ in_brackets c us)
 plain_joined op b c ts us h k = all_both IsPlain (in_brackets b ts) (tokens.Operator op ∷ in_brackets c us) (plain_brackets b ts h) ((refl, refl), plain_brackets c us k)
 
--- behind the bracket of a call
-plain_with_seconds : (seconds : ℤ) (ts : List Token) → ArePlain ts → ArePlain (ts ++ tokens.Comma ∷ tokens.Number seconds ∷ tokens.Close ∷ [])
-plain_with_seconds seconds ts h = all_both IsPlain ts (tokens.Comma ∷ tokens.Number seconds ∷ tokens.Close ∷ []) h ((refl, refl), ((refl, refl), ((refl, refl), tt)))
+plain_end : (number : Option ℤ) → ArePlain (number_end_tokens number)
+plain_end None = ((refl, refl), tt)
+plain_end (Some n) = ((refl, refl), ((refl, refl), ((refl, refl), tt)))
+
+abbrev HasPlainName : Option (Word × Option ℤ) → Type 0
+HasPlainName None = Unit {0}
+HasPlainName (Some call) = IsPlain (tokens.Word call.0)
+
+plain_name : (op : UnaryOp) → HasPlainName (call_of op)
+plain_name Not = tt
+plain_name op = (refl, refl)
+
+plain_unary : (by : Option (Word × Option ℤ)) (joined : Bool) (ts : List Token)
+    → HasPlainName by → ArePlain ts → ArePlain (unary_tokens by joined ts)
+plain_unary None joined ts name h = ((refl, refl), plain_brackets joined ts h)
+plain_unary (Some call) joined ts name h =
+    let end = number_end_tokens call.1 in
+    (name, ((refl, refl), all_both IsPlain ts end h (plain_end call.1)))
 
 plain_pairs : (ts us : List Token) → ArePlain ts → ArePlain us → ArePlain (ts ++ (tokens.Comma ∷ us ++ tokens.Close ∷ []))
 plain_pairs ts us h k = all_both IsPlain ts (tokens.Comma ∷ us ++ tokens.Close ∷ []) h ((refl, refl), all_both IsPlain us (tokens.Close ∷ []) k ((refl, refl), tt))
@@ -213,12 +231,8 @@ no_fault (Spanned bounds low high) h = refl
 no_fault (Ruled (Field rule)) h = rw (rule_back rule, h.0.0) refl
 no_fault (Ruled (Ical rule)) h = refl
 no_fault (Joined op a b) h = rw (no_fault a (first_shown h), no_fault b (other_shown h)) refl
-no_fault (Not a) h = no_fault a h
-no_fault (During a seconds) h = no_fault a h
 no_fault (Pairs a b) h = rw (no_fault a (first_shown h), no_fault b (other_shown h)) refl
-no_fault (Starts a) h = no_fault a h
-no_fault (Ends a) h = no_fault a h
-no_fault (Shift a seconds) h = no_fault a h
+no_fault (Unary op a) h = no_fault a h
 
 no_second_fault : (o : Option (Tree Rule)) → IsShownSecond o → second_rule_fault (option_map written o) ≡ None
 no_second_fault None h = refl
@@ -237,12 +251,10 @@ plain_spelled (Spanned bounds low high) h =
 plain_spelled (Ruled (Field rule)) h = plain_rule rule.freq (written_fields rule) (named_fields rule)
 plain_spelled (Ruled (Ical rule)) h = ((refl, refl), ((refl, refl), ((refl, refl), ((refl, refl), ((refl, refl), ((refl, refl), tt))))))
 plain_spelled (Joined op a b) h = plain_joined op (is_joined (written a)) (is_joined (written b)) (spelled (written a)) (spelled (written b)) (plain_spelled a (first_shown h)) (plain_spelled b (other_shown h))
-plain_spelled (Not a) h = ((refl, refl), plain_brackets (is_joined (written a)) (spelled (written a)) (plain_spelled a h))
-plain_spelled (During a seconds) h = ((refl, refl), ((refl, refl), plain_with_seconds seconds (spelled (written a)) (plain_spelled a h)))
 plain_spelled (Pairs a b) h = ((refl, refl), ((refl, refl), plain_pairs (spelled (written a)) (spelled (written b)) (plain_spelled a (first_shown h)) (plain_spelled b (other_shown h))))
-plain_spelled (Starts a) h = ((refl, refl), plain_brackets true (spelled (written a)) (plain_spelled a h))
-plain_spelled (Ends a) h = ((refl, refl), plain_brackets true (spelled (written a)) (plain_spelled a h))
-plain_spelled (Shift a seconds) h = ((refl, refl), ((refl, refl), plain_with_seconds seconds (spelled (written a)) (plain_spelled a h)))
+plain_spelled (Unary op a) h =
+    let w = written a in
+    plain_unary (call_of op) (is_joined w) (spelled w) (plain_name op) (plain_spelled a h)
 
 plain_second : (o : Option (Tree Rule)) → IsShownSecond o → ArePlain (spelled_second (option_map written o))
 plain_second None h = tt
@@ -266,12 +278,8 @@ spans_held (Spanned bounds low high) h =
 spans_held (Ruled (Field rule)) h = tt
 spans_held (Ruled (Ical rule)) h = tt
 spans_held (Joined op a b) h = all_both HasPosition (spans_of (written a)) (spans_of (written b)) (spans_held a (first_shown h)) (spans_held b (other_shown h))
-spans_held (Not a) h = spans_held a h
-spans_held (During a seconds) h = spans_held a h
 spans_held (Pairs a b) h = all_both HasPosition (spans_of (written a)) (spans_of (written b)) (spans_held a (first_shown h)) (spans_held b (other_shown h))
-spans_held (Starts a) h = spans_held a h
-spans_held (Ends a) h = spans_held a h
-spans_held (Shift a seconds) h = spans_held a h
+spans_held (Unary op a) h = spans_held a h
 
 second_held : (o : Option (Tree Rule)) → IsShownSecond o → AllByRecursion HasPosition (second_spans (option_map written o))
 second_held None h = tt
@@ -281,12 +289,6 @@ second_held (Some t) h = spans_held t h
 plain_quoted : (b : ℕ) → is_plain b ≡ true → holds classes.Quoted b ≡ true
 plain_quoted b h = grind (arith, nat_tests)
 
-all_quoted : (text : List ℕ) → list_all is_plain text ≡ true → list_all (holds classes.Quoted) text ≡ true
-all_quoted [] each = refl
-all_quoted (b ∷ text) each =
-    let parts = and_parts (is_plain b) (list_all is_plain text) each in
-    and_from (holds classes.Quoted b) (list_all (holds classes.Quoted) text) (plain_quoted b parts.0) (all_quoted text parts.1)
-
 no_text_fault : WrittenIsRead → (t : Tree Rule) → IsShown t → rrule_fault (written t) ≡ None
 no_text_fault back Empty h = refl
 no_text_fault back (Ruled (Listed stamps)) h = refl
@@ -294,12 +296,8 @@ no_text_fault back (Spanned bounds low high) h = refl
 no_text_fault back (Ruled (Field rule)) h = refl
 no_text_fault back (Ruled (Ical rule)) h = ap fault_of (back rule h.0.0 h.0.1)
 no_text_fault back (Joined op a b) h = rw (no_text_fault back a (first_shown h), no_text_fault back b (other_shown h)) refl
-no_text_fault back (Not a) h = no_text_fault back a h
-no_text_fault back (During a seconds) h = no_text_fault back a h
 no_text_fault back (Pairs a b) h = rw (no_text_fault back a (first_shown h), no_text_fault back b (other_shown h)) refl
-no_text_fault back (Starts a) h = no_text_fault back a h
-no_text_fault back (Ends a) h = no_text_fault back a h
-no_text_fault back (Shift a seconds) h = no_text_fault back a h
+no_text_fault back (Unary op a) h = no_text_fault back a h
 
 no_second_text_fault : WrittenIsRead → (o : Option (Tree Rule)) → IsShownSecond o → second_rrule_fault (option_map written o) ≡ None
 no_second_text_fault back None h = refl
@@ -307,6 +305,20 @@ no_second_text_fault back (Some t) h = no_text_fault back t h
 
 no_rrule_fault : WrittenIsRead → (p : Trees) → AreShown p → first_rrule_fault (all_written p) ≡ None
 no_rrule_fault back p h = rw (no_text_fault back p.first h.0, no_second_text_fault back p.second h.1) refl
+
+-- the number of a call
+abbrev size_of : Option ℤ → ℕ
+size_of None = 0
+size_of (Some n) = unsigned_abs n
+
+abbrev call_size : Option (Word × Option ℤ) → ℕ
+call_size None = 0
+call_size (Some call) = size_of call.1
+
+-- is no greater than what the operator looks past
+call_near : (op : UnaryOp) → call_size (call_of op) ≤ looks_past op
+call_near Not = omega arith
+call_near op = omega arith
 
 module _ (program_spelled : PrintedIsSpelled) (writing : Writing) (fit : FieldValuesFit) (intervals : FieldIntervalFits) (back : WrittenIsRead) (plain : WrittenIsPlain) where
   -- three texts, one behind the other
@@ -423,11 +435,14 @@ module _ (program_spelled : PrintedIsSpelled) (writing : Writing) (fit : FieldVa
       let end = codes ")" in
       let behind = codes ", " ++ (S ++ end) in
       let string = 34 ∷ T ++ 34 ∷ [] in
+      let quoted = all_weaker is_plain (holds classes.Quoted) plain_quoted T (plain rule h.0 h.1) in
       let e : rrule_text rule ≡ codes "rrule(" ++ (string ++ behind) =
       ap (λ (x : List ℕ). codes "rrule(\"" ++ x) (append_assoc (T ++ codes "\", ") S end ∙ append_assoc T (codes "\", ") (S ++ end) ∙ sym (append_assoc T (34 ∷ []) behind)) in
       along (rrule_text rule) (codes "rrule(" ++ (string ++ behind)) (rrule_tokens T (Some rule.start)) rest e
       (writing.parts (codes "rrule(") (string ++ behind) (tokens.Word words.Rrule ∷ tokens.Open ∷ []) (tokens.Text T ∷ tokens.Comma ∷ tokens.Moment (Some rule.start) ∷ tokens.Close ∷ []) rest (word_open words.Rrule ((string ++ behind) ++ rest))
-      (writing.parts string behind (tokens.Text T ∷ []) (tokens.Comma ∷ tokens.Moment (Some rule.start) ∷ tokens.Close ∷ []) rest (writing.strings T (behind ++ rest) (all_quoted T (plain rule h.0 h.1)) short)
+      (writing.parts string behind (tokens.Text T ∷ [])
+      (tokens.Comma ∷ tokens.Moment (Some rule.start) ∷ tokens.Close ∷ []) rest
+      (writing.strings T (behind ++ rest) quoted short)
       (writing.parts (codes ", ") (S ++ end) (tokens.Comma ∷ []) (tokens.Moment (Some rule.start) ∷ tokens.Close ∷ []) rest (comma ((S ++ end) ++ rest))
       (writing.parts S end (tokens.Moment (Some rule.start) ∷ []) (tokens.Close ∷ []) rest (stamp_lexes rule.start (end ++ rest) h.2 refl) (Lexes-close writing rest)))))
 
@@ -446,31 +461,55 @@ module _ (program_spelled : PrintedIsSpelled) (writing : Writing) (fit : FieldVa
       (operand_lexes a ((sign_text op ++ y) ++ rest) first) (sign_lexes op (y ++ rest)) (operand_lexes b rest second)
 
   -- a call, by what stands within its brackets
-  call_lexes : (w : Word) (within : List ℕ) (ts : List Token) (rest : List ℕ) → Lexes within ts (codes ")" ++ rest) → Lexes (call_text (name_of w ++ codes "(") within) (tokens.Word w ∷ tokens.Open ∷ ts ++ tokens.Close ∷ []) rest
+  call_lexes : (w : Word) (within : List ℕ) (ts : List Token) (rest : List ℕ)
+      → Lexes within ts (codes ")" ++ rest)
+      → Lexes (call_text w within) (tokens.Word w ∷ tokens.Open ∷ ts ++ tokens.Close ∷ []) rest
   call_lexes w within ts rest h =
       three (name_of w ++ codes "(") within (codes ")") (tokens.Word w ∷ tokens.Open ∷ []) ts (tokens.Close ∷ []) rest (word_open w ((within ++ codes ")") ++ rest)) h (Lexes-close writing rest)
 
-  seconds_lexes : (w : Word) (a : Tree Rule) (seconds : ℤ) (rest : List ℕ) → ((r : List ℕ) → Lexes (print a) (spelled (written a)) r) → unsigned_abs seconds < 10 ^ 13
-      → Lexes (call_text (name_of w ++ codes "(") (print a ++ seconds_text seconds)) (tokens.Word w ∷ tokens.Open ∷ spelled (written a) ++ tokens.Comma ∷ tokens.Number seconds ∷ tokens.Close ∷ []) rest
-  seconds_lexes w a seconds rest first short =
-      let ts = spelled (written a) in
-      let us = tokens.Comma ∷ tokens.Number seconds ∷ [] in
-      let within : Lexes (print a ++ seconds_text seconds) (ts ++ us) (codes ")" ++ rest) =
-      writing.parts (print a) (seconds_text seconds) ts us (codes ")" ++ rest) (first (seconds_text seconds ++ (codes ")" ++ rest)))
-      (writing.parts (codes ", ") (signed_decimal seconds) (tokens.Comma ∷ []) (tokens.Number seconds ∷ []) (codes ")" ++ rest) (comma (signed_decimal seconds ++ (codes ")" ++ rest))) (writing.numbers seconds (codes ")" ++ rest) short refl)) in
-      spelled_as (call_text (name_of w ++ codes "(") (print a ++ seconds_text seconds)) (tokens.Word w ∷ tokens.Open ∷ (ts ++ us) ++ tokens.Close ∷ []) (tokens.Word w ∷ tokens.Open ∷ ts ++ tokens.Comma ∷ tokens.Number seconds ∷ tokens.Close ∷ []) rest
-      (ap (λ (x : List Token). tokens.Word w ∷ tokens.Open ∷ x) (sym (append_assoc ts us (tokens.Close ∷ [])))) (call_lexes w (print a ++ seconds_text seconds) (ts ++ us) rest within)
+  -- a call of one set, with the number behind it if there is one
+  number_lexes : (w : Word) (number : Option ℤ) (text : List ℕ) (ts : List Token) (rest : List ℕ)
+      → ((r : List ℕ) → Lexes text ts r) → size_of number < 10 ^ 13
+      → Lexes (call_text w (text ++ number_text number))
+      (tokens.Word w ∷ tokens.Open ∷ ts ++ number_end_tokens number) rest
+  number_lexes w None text ts rest first short =
+      rw (append-nil text) (call_lexes w text ts rest (first (codes ")" ++ rest)))
+  number_lexes w (Some n) text ts rest first short =
+      let end = codes ")" ++ rest in
+      let us = tokens.Comma ∷ tokens.Number n ∷ [] in
+      let behind : Lexes (number_text (Some n)) us end =
+      writing.parts (codes ", ") (signed_decimal n) (tokens.Comma ∷ []) (tokens.Number n ∷ []) end
+      (comma (signed_decimal n ++ end)) (writing.numbers n end short refl) in
+      let within : Lexes (text ++ number_text (Some n)) (ts ++ us) end =
+      writing.parts text (number_text (Some n)) ts us end
+      (first (number_text (Some n) ++ end)) behind in
+      let whole = call_lexes w (text ++ number_text (Some n)) (ts ++ us) rest within in
+      rw (← append_assoc ts us (tokens.Close ∷ [])) whole
+
+  unary_lexes : (by : Option (Word × Option ℤ)) (a : Tree Rule) (rest : List ℕ)
+      → ((r : List ℕ) → Lexes (print a) (spelled (written a)) r) → call_size by < 10 ^ 13
+      → Lexes (unary_text by (is_join a) (print a))
+      (unary_tokens by (is_joined (written a)) (spelled (written a))) rest
+  unary_lexes None a rest first short =
+      let text = bracketed (is_join a) (print a) in
+      let ts = in_brackets (is_joined (written a)) (spelled (written a)) in
+      writing.parts (codes "!") text (tokens.Exclamation ∷ []) ts rest
+      (Lexes-exclamation writing (text ++ rest)) (operand_lexes a rest first)
+  unary_lexes (Some by) a rest first short =
+      number_lexes by.0 by.1 (print a) (spelled (written a)) rest first short
 
   pairs_lexes : (a b : Tree Rule) (rest : List ℕ) → ((r : List ℕ) → Lexes (print a) (spelled (written a)) r) → ((r : List ℕ) → Lexes (print b) (spelled (written b)) r)
-      → Lexes (call_text (codes "pairs(") (print a ++ codes ", " ++ print b)) (tokens.Word words.Pairs ∷ tokens.Open ∷ spelled (written a) ++ (tokens.Comma ∷ spelled (written b) ++ tokens.Close ∷ [])) rest
+      → Lexes (call_text words.Pairs (print a ++ codes ", " ++ print b))
+      (tokens.Word words.Pairs ∷ tokens.Open ∷ spelled (written a)
+      ++ (tokens.Comma ∷ spelled (written b) ++ tokens.Close ∷ [])) rest
   pairs_lexes a b rest first second =
       let ts = spelled (written a) in
       let us = spelled (written b) in
       let both = print a ++ codes ", " ++ print b in
       let within : Lexes both (ts ++ tokens.Comma ∷ us) (codes ")" ++ rest) =
       three (print a) (codes ", ") (print b) ts (tokens.Comma ∷ []) us (codes ")" ++ rest) (first ((codes ", " ++ print b) ++ (codes ")" ++ rest))) (comma (print b ++ (codes ")" ++ rest))) (second (codes ")" ++ rest)) in
-      spelled_as (call_text (codes "pairs(") both) (tokens.Word words.Pairs ∷ tokens.Open ∷ (ts ++ tokens.Comma ∷ us) ++ tokens.Close ∷ []) (tokens.Word words.Pairs ∷ tokens.Open ∷ ts ++ (tokens.Comma ∷ us ++ tokens.Close ∷ [])) rest
-      (ap (λ (x : List Token). tokens.Word words.Pairs ∷ tokens.Open ∷ x) (sym (append_assoc ts (tokens.Comma ∷ us) (tokens.Close ∷ [])))) (call_lexes words.Pairs both (ts ++ tokens.Comma ∷ us) rest within)
+      let whole = call_lexes words.Pairs both (ts ++ tokens.Comma ∷ us) rest within in
+      rw (← append_assoc ts (tokens.Comma ∷ us) (tokens.Close ∷ [])) whole
 
   print_lexes : (t : Tree Rule) (rest : List ℕ) → IsShown t → reach_of t < 10 ^ 13 → Lexes (print t) (spelled (written t)) rest
   unfolding print spelled
@@ -481,14 +520,10 @@ module _ (program_spelled : PrintedIsSpelled) (writing : Writing) (fit : FieldVa
   print_lexes (Ruled (Field rule)) rest h near = rule_lexes writing fit intervals rule rest h.0.0 h.0.1
   print_lexes (Ruled (Ical rule)) rest h near = rrule_lexes rule rest h.0 h.1
   print_lexes (Joined op a b) rest h near = joined_lexes op a b rest (λ r. print_lexes a r (first_shown h) (omega (arith, near))) (λ r. print_lexes b r (other_shown h) (omega (arith, near)))
-  print_lexes (Not a) rest h near =
-      writing.parts (codes "!") (bracketed (is_join a) (print a)) (tokens.Exclamation ∷ []) (in_brackets (is_joined (written a)) (spelled (written a))) rest
-      (Lexes-exclamation writing (bracketed (is_join a) (print a) ++ rest)) (operand_lexes a rest (λ r. print_lexes a r h near))
-  print_lexes (During a seconds) rest h near = seconds_lexes words.During a seconds rest (λ r. print_lexes a r h (omega (arith, near))) (omega (arith, near))
   print_lexes (Pairs a b) rest h near = pairs_lexes a b rest (λ r. print_lexes a r (first_shown h) (omega (arith, near))) (λ r. print_lexes b r (other_shown h) (omega (arith, near)))
-  print_lexes (Starts a) rest h near = call_lexes words.Starts (print a) (spelled (written a)) rest (print_lexes a (codes ")" ++ rest) h (omega (arith, near)))
-  print_lexes (Ends a) rest h near = call_lexes words.Ends (print a) (spelled (written a)) rest (print_lexes a (codes ")" ++ rest) h (omega (arith, near)))
-  print_lexes (Shift a seconds) rest h near = seconds_lexes words.Shift a seconds rest (λ r. print_lexes a r h (omega (arith, near))) (omega (arith, near))
+  print_lexes (Unary op a) rest h near =
+      let first = λ (r : List ℕ). print_lexes a r h (omega (arith, near)) in
+      unary_lexes (call_of op) a rest first (omega (arith, call_near op, near))
 
   second_lexes : (o : Option (Tree Rule)) → IsShownSecond o → IsModestSecond o → Lexes (print_second o) (spelled_second (option_map written o)) []
   second_lexes None h modest = writing.nothing []

@@ -13,12 +13,11 @@ use Rattle.span_core.specs.declared.bounds.Bound.{Bound}
 use Rattle.span_core.specs.declared.bounds.Bound.TheVariants.{Closed, Open, Inf, Edge}
 use Rattle.expr_grammar.specs.declared.syntax.BinaryOp.TheVariants as binaries
 use Rattle.expr_grammar.specs.declared.syntax.SpanBound.{SpanBound}
-use Rattle.expr_grammar.specs.declared.syntax.UnaryOp.TheVariants as unaries
 use Rattle.expr_grammar.specs.Form.{Form, Forms}
 use Rattle.expr_grammar.specs.Form as forms
 use Rattle.expr_grammar.specs.Nesting.{HasTokens, IsPrintable, IsPrintableForm, IsPrintableSecond, height, is_joined}
 use Rattle.expr_tree.specs.Sorts.{depth_of, durations_last, judge, nodes_of, reach_of, reaches_badly, sort_of_tree, sort_with}
-use Rattle.expr_tree.specs.Tree.{Rule, Listed, Field, Ical, Tree, Empty, Spanned, Ruled, Joined, Not, During, Pairs, Starts, Ends, Shift, Trees}
+use Rattle.expr_tree.specs.Tree.{Rule, Listed, Field, Ical, Tree, Empty, Spanned, Ruled, Joined, Pairs, Unary, Trees}
 use Rattle.expr_tree.specs.WellFormed.{AreWellFormed, HasClock, IsWellFormed, IsWellFormedSecond}
 use Rattle.rule_core.specs.declared.field.FieldRule.{FieldRule}
 use Rattle.rule_core.specs.declared.ical.IcalRule.{IcalRule}
@@ -80,12 +79,8 @@ written (Spanned bounds low high) = forms.Span (written_bound bounds.0 low) (wri
 written (Ruled (Field rule)) = forms.Rule rule.freq (written_fields rule)
 written (Ruled (Ical rule)) = forms.Rrule (text_of rule) (Some rule.start)
 written (Joined op a b) = forms.Binary (binaries.Infix op) (written a) (written b)
-written (Not a) = forms.Unary unaries.Inverse (written a)
-written (During a seconds) = forms.Unary (unaries.During seconds) (written a)
 written (Pairs a b) = forms.Binary binaries.Pairs (written a) (written b)
-written (Starts a) = forms.Unary unaries.Starts (written a)
-written (Ends a) = forms.Unary unaries.Ends (written a)
-written (Shift a seconds) = forms.Unary (unaries.Shift seconds) (written a)
+written (Unary op a) = forms.Unary op (written a)
 
 abbrev pub all_written : Trees → Forms
 all_written p = record { first = written p.first; second = option_map written p.second }
@@ -133,12 +128,8 @@ module _ (back : WrittenIsRead) where
   tree_back (Ruled (Field rule)) h = ap (option_map (λ (r : FieldRule). Ruled (Field r))) (rule_back rule)
   tree_back (Ruled (Ical rule)) h = ap (option_map (λ (r : IcalRule). Ruled (Ical r))) (rrule_back rule h.0)
   tree_back (Joined op a b) h = rw (tree_back a (first_shown h), tree_back b (other_shown h)) refl
-  tree_back (Not a) h = rw (tree_back a h) refl
-  tree_back (During a seconds) h = rw (tree_back a h) refl
   tree_back (Pairs a b) h = rw (tree_back a (first_shown h), tree_back b (other_shown h)) refl
-  tree_back (Starts a) h = rw (tree_back a h) refl
-  tree_back (Ends a) h = rw (tree_back a h) refl
-  tree_back (Shift a seconds) h = rw (tree_back a h) refl
+  tree_back (Unary op a) h = rw (tree_back a h) refl
 
   both_back : (t : Tree Rule) (o : Option (Tree Rule)) → IsShown t → IsShownSecond o → trees_from (record { first = written t; second = option_map written o }) ≡ Some (record { first = t; second = o })
   both_back t None h k = rw (tree_back t h) refl
@@ -154,12 +145,8 @@ joined_same (Ruled (Listed stamps)) = refl
 joined_same (Ruled (Field rule)) = refl
 joined_same (Ruled (Ical rule)) = refl
 joined_same (Joined op a b) = refl
-joined_same (Not a) = refl
-joined_same (During a seconds) = refl
 joined_same (Pairs a b) = refl
-joined_same (Starts a) = refl
-joined_same (Ends a) = refl
-joined_same (Shift a seconds) = refl
+joined_same (Unary op a) = refl
 
 height_same : (t : Tree Rule) → height (written t) ≡ depth_of t
 unfolding height
@@ -169,12 +156,8 @@ height_same (Ruled (Listed stamps)) = refl
 height_same (Ruled (Field rule)) = refl
 height_same (Ruled (Ical rule)) = refl
 height_same (Joined op a b) = rw (height_same a, height_same b) (omega arith)
-height_same (Not a) = rw (height_same a) (omega arith)
-height_same (During a seconds) = rw (height_same a) (omega arith)
 height_same (Pairs a b) = rw (height_same a, height_same b) (omega arith)
-height_same (Starts a) = rw (height_same a) (omega arith)
-height_same (Ends a) = rw (height_same a) (omega arith)
-height_same (Shift a seconds) = rw (height_same a) (omega arith)
+height_same (Unary op a) = rw (height_same a) (omega arith)
 
 has_tokens : (t : Tree Rule) → IsShown t → HasTokens (written t)
 unfolding HasTokens
@@ -185,12 +168,8 @@ has_tokens (Spanned bounds low high) h = tt
 has_tokens (Ruled (Field rule)) h = are_fields rule
 has_tokens (Ruled (Ical rule)) h = tt
 has_tokens (Joined op a b) h = (has_tokens a (first_shown h), has_tokens b (other_shown h))
-has_tokens (Not a) h = has_tokens a h
-has_tokens (During a seconds) h = has_tokens a h
 has_tokens (Pairs a b) h = (has_tokens a (first_shown h), has_tokens b (other_shown h))
-has_tokens (Starts a) h = has_tokens a h
-has_tokens (Ends a) h = has_tokens a h
-has_tokens (Shift a seconds) h = has_tokens a h
+has_tokens (Unary op a) h = has_tokens a h
 
 not_below : (a b : ℕ) → nat_lt a b ≡ false → b ≤ a
 not_below a b e = grind (arith, nat_tests)

@@ -1,6 +1,6 @@
 -- The laws of reading texts.
 use Rattle.std.specs.Prelude.{◌≡◌, ◌<◌, ◌≤◌, ℕ, List, length, Option, Some, None, Result, Ok, Err}
-use Rattle.expr_tree.specs.Tree.{Rule, Listed, Field, Ical, Tree, Empty, Spanned, Ruled, Joined, Not, During, Pairs, Starts, Ends, Shift, Trees}
+use Rattle.expr_tree.specs.Tree.{Rule, Listed, Field, Ical, Tree, Empty, Spanned, Ruled, Joined, Pairs, Unary, Trees}
 use Rattle.expr_text.specs.Accepted.{IsRead}
 use Rattle.expr_tree.specs.WellFormed.{AreWellFormed}
 use Rattle.expr_text.specs.declared.fault.TheConstants.{LONGEST}
@@ -37,12 +37,8 @@ HasShortStrings (Ruled (Listed stamps)) = Unit {0}
 HasShortStrings (Ruled (Field rule)) = Unit {0}
 HasShortStrings (Ruled (Ical rule)) = length (text_of rule) ≤ string_limit
 HasShortStrings (Joined op a b) = HasShortStrings a × HasShortStrings b
-HasShortStrings (Not a) = HasShortStrings a
-HasShortStrings (During a seconds) = HasShortStrings a
 HasShortStrings (Pairs a b) = HasShortStrings a × HasShortStrings b
-HasShortStrings (Starts a) = HasShortStrings a
-HasShortStrings (Ends a) = HasShortStrings a
-HasShortStrings (Shift a seconds) = HasShortStrings a
+HasShortStrings (Unary op a) = HasShortStrings a
 
 abbrev pub HasShortSecond : Option (Tree Rule) → Type 0
 HasShortSecond None = Unit {0}

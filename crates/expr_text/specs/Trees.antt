@@ -9,13 +9,11 @@ use Rattle.span_core.specs.declared.bounds.Bound.TheVariants.{Closed, Open, Inf}
 use Rattle.expr_grammar.specs.declared.syntax.BinaryOp.{BinaryOp}
 use Rattle.expr_grammar.specs.declared.syntax.BinaryOp.TheVariants as binaries
 use Rattle.expr_grammar.specs.declared.syntax.SpanBound.{SpanBound}
-use Rattle.expr_grammar.specs.declared.syntax.UnaryOp.{UnaryOp}
-use Rattle.expr_grammar.specs.declared.syntax.UnaryOp.TheVariants as unaries
 use Rattle.expr_grammar.specs.Form.{Form, Forms}
 use Rattle.expr_grammar.specs.Form as forms
 use Rattle.expr_text.specs.Rules.{rule_from}
 use Rattle.expr_text.specs.Rrules.{rrule_from}
-use Rattle.expr_tree.specs.Tree.{Rule, Listed, Field, Ical, Tree, Empty, Spanned, Ruled, Joined, Not, During, Pairs, Starts, Ends, Shift, Trees}
+use Rattle.expr_tree.specs.Tree.{Rule, Listed, Field, Ical, Tree, Empty, Spanned, Ruled, Joined, Pairs, Unary, Trees}
 
 -- two values, where there are both
 abbrev pub both : {A B C : Type 0} → (A → B → C) → Option A → Option B → Option C
@@ -59,14 +57,7 @@ is_named (Some b) = is_some b.stamp
 abbrev pub listed : List Stamp → Tree Rule
 listed stamps = Ruled (Listed stamps)
 
--- the trees that are made of one, and of two
-abbrev pub unary_tree : UnaryOp → Tree Rule → Tree Rule
-unary_tree unaries.Inverse a = Not a
-unary_tree (unaries.During seconds) a = During a seconds
-unary_tree unaries.Starts a = Starts a
-unary_tree unaries.Ends a = Ends a
-unary_tree (unaries.Shift seconds) a = Shift a seconds
-
+-- the tree that is made of two
 abbrev pub binary_tree : BinaryOp → Tree Rule → Tree Rule → Tree Rule
 binary_tree (binaries.Infix op) a b = Joined op a b
 binary_tree binaries.Pairs a b = Pairs a b
@@ -81,7 +72,7 @@ tree_from (forms.Span low high) =
     else None
 tree_from (forms.Rule freq fields) = option_map (λ rule. Ruled (Field rule)) (rule_from freq fields)
 tree_from (forms.Rrule text start) = option_map (λ rule. Ruled (Ical rule)) (rrule_from text start)
-tree_from (forms.Unary op a) = option_map (unary_tree op) (tree_from a)
+tree_from (forms.Unary op a) = option_map (Unary op) (tree_from a)
 tree_from (forms.Binary op a b) = both (binary_tree op) (tree_from a) (tree_from b)
 
 -- one tree, or two

@@ -6,15 +6,15 @@ ghost use Rattle.expr_grammar.specs.Syntax.{all_places_of, field_form, form_of, 
 ghost use Rattle.expr_text.specs.Making.{AreBothMade, Begins, IsMadeOf, Makes, MakesAll};
 ghost use Rattle.expr_text.specs.Fault.{HasNoInnerMemory};
 ghost use Rattle.expr_text.specs.Phases.{AreBoth};
-ghost use Rattle.expr_text.specs.Trees.{binary_tree, bound_of, clock_of, unary_tree};
-ghost use Rattle.expr_tree.specs.Tree.{tree_of};
+ghost use Rattle.expr_text.specs.Trees.{binary_tree, bound_of, clock_of};
+ghost use Rattle.expr_tree.specs.Tree.{Unary as UnaryTree, tree_of};
 ghost use Rattle.moment_core.specs.declared.line.Stamp.{Stamp as TheStamp};
 
 use crate::fault::TextFault;
 use crate::rules::rule;
-use expr_grammar::{BinaryOp, Field, SpanBound, SyntaxTree, SyntaxTrees, UnaryOp};
+use expr_grammar::{BinaryOp, Field, SpanBound, SyntaxTree, SyntaxTrees};
 use expr_tree::{Expr, Program, Stamps};
-use moment_core::{Clock, Op, Stamp};
+use moment_core::{Clock, Op, Stamp, UnaryOp};
 use rrule_text::{RruleFault, read_rrule};
 use rule_core::{Freq, RuleFault};
 use span_core::{Bound, Empty, Span};
@@ -145,11 +145,11 @@ fn both(a: Made, b: Made) -> Result<(Expr, Expr), Unmade>
 
 /// The set that is made of one.
 fn unary_set(alloc: Global, op: UnaryOp, a: Expr) -> Result<Expr, AllocError>
-    ensures { IfOk result (λ e. tree_of e ≡ unary_tree op (tree_of a)) }
+    ensures { IfOk result (λ e. tree_of e ≡ UnaryTree op (tree_of a)) }
 {
     let a = Box::new(alloc, a)?;
     Ok(match op {
-        UnaryOp::Inverse => Expr::Not(a),
+        UnaryOp::Not => Expr::Not(a),
         UnaryOp::During(seconds) => Expr::During(a, seconds),
         UnaryOp::Starts => Expr::Starts(a),
         UnaryOp::Ends => Expr::Ends(a),

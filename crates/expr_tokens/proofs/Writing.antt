@@ -1,6 +1,5 @@
 -- Bytes that are read as given tokens, and what may stand behind them.
-use Rattle.std.proofs.Common.{◌≡◌, ℕ, zero, suc, ◌^◌, ◌≤◌, ◌<◌, pos, negsuc, true, false, List, [], ◌∷◌, ◌++◌, length, Some, Result, Ok, Err, refl, sym, ap, ◌∙◌, append_assoc, arith, rules, length-append}
-use Rattle.std.specs.Prelude.{codes}
+use Rattle.std.proofs.Common.{◌≡◌, ℕ, zero, suc, ◌^◌, ◌≤◌, ◌<◌, pos, negsuc, true, false, List, [], ◌∷◌, ◌++◌, length, drop, Some, Result, Ok, Err, refl, sym, ap, ◌∙◌, append_assoc, arith, rules, length-append}
 use Rattle.std.specs.Fmt.{decimal}
 use Rattle.std.specs.List.{list_all}
 use Rattle.std.proofs.lemmas.Str.Parse.{numerals_by_fold, IsNumeralModel}
@@ -12,7 +11,7 @@ use Rattle.moment_text.specs.Laws.{FrontsAreLongest, LiteralsAreShaped, Literals
 use Rattle.moment_text.specs.Literal.{literal_of}
 use Rattle.expr_tokens.specs.declared.class.Class.TheVariants as classes
 use Rattle.expr_tokens.specs.declared.token.Word.{Word}
-use Rattle.expr_tokens.specs.declared.token.Word.TheVariants.{Empty, Span, Yearly, Monthly, Weekly, Daily, Hourly, Minutely, Secondly, Rrule, Event, During, Pairs, Starts, Ends, Shift, Zoned, ZonedFirst, Start, After, End, Before, Months, Weeks, Days, Hours, Minutes, Seconds, Interval, WeekStart}
+use Rattle.expr_tokens.specs.declared.token.Word.TheVariants.{Empty}
 use Rattle.expr_tokens.specs.Plain.{Token}
 use Rattle.expr_tokens.specs.Plain as tokens
 use Rattle.expr_tokens.specs.Class.{holds, passes_first}
@@ -86,52 +85,27 @@ Lexes-string quoted rest each short = Lexes-token (34 ∷ quoted ++ 34 ∷ []) (
 Lexes-name : (b : ℕ) (more rest : List ℕ) → holds classes.Letter b ≡ true → list_all (holds classes.Name) more ≡ true → passes_first (holds classes.Name) rest ≡ false → Lexes (b ∷ more) (named (b ∷ more) (word_of (b ∷ more)) ∷ []) rest
 Lexes-name b more rest letter each stop = Lexes-token (b ∷ more) (named (b ∷ more) (word_of (b ∷ more))) rest (name_read b more rest letter each stop)
 
+abbrev first_of : List ℕ → ℕ
+first_of [] = 0
+first_of (b ∷ more) = b
+
 -- the name of a word is one, and is that word's
-record IsName (w : Word) (name : List ℕ) : Type 0 where
-  first : ℕ
-  more : List ℕ
-  splits : name ≡ first ∷ more
+record IsName (w : Word) (first : ℕ) (more : List ℕ) : Type 0 where
+  splits : name_of w ≡ first ∷ more
   letter : holds classes.Letter first ≡ true
   each : list_all (holds classes.Name) more ≡ true
   word : word_of (first ∷ more) ≡ Some w
 
-word_named : (w : Word) → IsName w (name_of w)
+word_named : (w : Word) → IsName w (first_of (name_of w)) (drop 1 (name_of w))
 unfolding word_of
-word_named Empty = record { first = 101; more = codes "mpty"; splits = refl; letter = refl; each = refl; word = refl }
-word_named Span = record { first = 115; more = codes "pan"; splits = refl; letter = refl; each = refl; word = refl }
-word_named Yearly = record { first = 121; more = codes "early"; splits = refl; letter = refl; each = refl; word = refl }
-word_named Monthly = record { first = 109; more = codes "onthly"; splits = refl; letter = refl; each = refl; word = refl }
-word_named Weekly = record { first = 119; more = codes "eekly"; splits = refl; letter = refl; each = refl; word = refl }
-word_named Daily = record { first = 100; more = codes "aily"; splits = refl; letter = refl; each = refl; word = refl }
-word_named Hourly = record { first = 104; more = codes "ourly"; splits = refl; letter = refl; each = refl; word = refl }
-word_named Minutely = record { first = 109; more = codes "inutely"; splits = refl; letter = refl; each = refl; word = refl }
-word_named Secondly = record { first = 115; more = codes "econdly"; splits = refl; letter = refl; each = refl; word = refl }
-word_named Rrule = record { first = 114; more = codes "rule"; splits = refl; letter = refl; each = refl; word = refl }
-word_named Event = record { first = 101; more = codes "vent"; splits = refl; letter = refl; each = refl; word = refl }
-word_named During = record { first = 100; more = codes "uring"; splits = refl; letter = refl; each = refl; word = refl }
-word_named Pairs = record { first = 112; more = codes "airs"; splits = refl; letter = refl; each = refl; word = refl }
-word_named Starts = record { first = 115; more = codes "tarts"; splits = refl; letter = refl; each = refl; word = refl }
-word_named Ends = record { first = 101; more = codes "nds"; splits = refl; letter = refl; each = refl; word = refl }
-word_named Shift = record { first = 115; more = codes "hift"; splits = refl; letter = refl; each = refl; word = refl }
-word_named Zoned = record { first = 122; more = codes "oned"; splits = refl; letter = refl; each = refl; word = refl }
-word_named ZonedFirst = record { first = 122; more = codes "oned_first"; splits = refl; letter = refl; each = refl; word = refl }
-word_named Start = record { first = 115; more = codes "tart"; splits = refl; letter = refl; each = refl; word = refl }
-word_named After = record { first = 97; more = codes "fter"; splits = refl; letter = refl; each = refl; word = refl }
-word_named End = record { first = 101; more = codes "nd"; splits = refl; letter = refl; each = refl; word = refl }
-word_named Before = record { first = 98; more = codes "efore"; splits = refl; letter = refl; each = refl; word = refl }
-word_named Months = record { first = 109; more = codes "onths"; splits = refl; letter = refl; each = refl; word = refl }
-word_named Weeks = record { first = 119; more = codes "eeks"; splits = refl; letter = refl; each = refl; word = refl }
-word_named Days = record { first = 100; more = codes "ays"; splits = refl; letter = refl; each = refl; word = refl }
-word_named Hours = record { first = 104; more = codes "ours"; splits = refl; letter = refl; each = refl; word = refl }
-word_named Minutes = record { first = 109; more = codes "inutes"; splits = refl; letter = refl; each = refl; word = refl }
-word_named Seconds = record { first = 115; more = codes "econds"; splits = refl; letter = refl; each = refl; word = refl }
-word_named Interval = record { first = 105; more = codes "nterval"; splits = refl; letter = refl; each = refl; word = refl }
-word_named WeekStart = record { first = 119; more = codes "eek_start"; splits = refl; letter = refl; each = refl; word = refl }
+word_named Empty = record { splits = refl; letter = refl; each = refl; word = refl }
+word_named w = record { splits = refl; letter = refl; each = refl; word = refl }
 
 pub Lexes-word : WordsAreRead
 Lexes-word w rest stop =
     let name = word_named w in
-    rw name.splits (rw name.word at (Lexes-name name.first name.more rest name.letter name.each stop))
+    let read = Lexes-name (first_of (name_of w)) (drop 1 (name_of w)) rest name.letter name.each in
+    rw name.splits (rw name.word at (read stop))
 
 -- numbers
 

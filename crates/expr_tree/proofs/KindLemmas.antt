@@ -1,26 +1,28 @@
 -- What the kind of a set says of its members, and clocks of moments.
-use Rattle.std.proofs.Common.{◌≡◌, refl, ap, sym, ◌∙◌, arith, ℕ, ◌<◌, suc, ℤ, pos, ◌+ℤ◌, ◌-ℤ◌, Bool, false, not, ◌&&◌, List, [], ◌∷◌, length, get_or, drop, Option, Some, None, Result, Ok, Err}
+use Rattle.std.proofs.Common.{◌≡◌, refl, ap, sym, ◌∙◌, arith, ℕ, ◌<◌, suc, ℤ, pos, ◌+ℤ◌, ◌-ℤ◌, Bool, true, false, not, ◌&&◌, List, [], ◌∷◌, length, get_or, drop, Option, Some, None, Result, Ok, Err}
 use Rattle.std.proofs.Math.Seq.{drop-cons}
 use Rattle.std.proofs.lemmas.Bool.{and_left, and_right, or_from}
 use Rattle.std.proofs.lemmas.Int.{ints}
 use Rattle.std.specs.Ordering.{int_eq}
 use Rattle.moment_core.specs.Clocks.{clock_of_stamp, one_clock}
-use Rattle.moment_core.specs.Line.{moment_of, position_of}
+use Rattle.moment_core.specs.Line.{is_moment, moment_of, position_of}
 use Rattle.moment_core.specs.declared.line.Clock.{Clock}
 use Rattle.moment_core.specs.declared.line.Stamp.{Stamp}
 use Rattle.moment_core.specs.Sets.{moments_in}
 use Rattle.rule_core.specs.FieldMembers.{has_field}
-use Rattle.span_core.specs.Bounds.{is_moment, lies_between}
+use Rattle.span_core.specs.Bounds.{lies_between}
 use Rattle.moment_core.specs.Joining.{joined}
 use Rattle.moment_core.specs.declared.joining.Op.{Op}
 use Rattle.moment_core.specs.declared.joining.Op.TheVariants.{Union, Meet, Minus}
+use Rattle.moment_core.specs.declared.joining.UnaryOp.{UnaryOp}
+use Rattle.moment_core.specs.declared.joining.UnaryOp.TheVariants.{Not, During, Starts, Ends, Shift}
 use Rattle.expr_tree.specs.Lists.{has_listed}
 use Rattle.ical_rules.specs.Rules.{meaning_of_ical}
 use Rattle.stored_pair.specs.Meanings.{Entries}
-use Rattle.expr_tree.specs.Members.{begins_at, ends_at, is_between, is_member, lasts_at}
-use Rattle.expr_tree.specs.Sorts.{as_kind, clock_of_stamps, clock_with, during_judged, either_kind, join_judged, joined_kind, judge, pairs_judged, reaches_badly, sort_of_tree, sort_with, spans_of, with_clock}
-use Rattle.expr_tree.specs.Sound.{HasMomentsAlone, IsSound}
-use Rattle.expr_tree.specs.Tree.{Rule, Listed, Field, Ical, Tree, Empty, Spanned, Ruled, Joined, Not, During, Pairs, Starts, Ends, Shift, meant_of}
+use Rattle.expr_tree.specs.Members.{begins_at, ends_at, is_between, is_member, lasts_at, unary_at}
+use Rattle.expr_tree.specs.Sorts.{as_kind, clock_of_stamps, clock_with, during_judged, either_kind, join_judged, joined_kind, judge, pairs_judged, reaches_badly, sort_of_tree, sort_with, spans_of, unary_judged, with_clock}
+use Rattle.expr_tree.specs.Sound.{HasMomentsAlone, IsSound, looks_back}
+use Rattle.expr_tree.specs.Tree.{Rule, Listed, Field, Ical, Tree, Empty, Spanned, Ruled, Joined, Pairs, Unary, meant_of}
 use Rattle.expr_tree.specs.declared.sorting.Judged.{Judged}
 use Rattle.expr_tree.specs.declared.sorting.Sort.{Sort}
 use Rattle.expr_tree.specs.declared.sorting.SortFault.{SortFault}
@@ -118,6 +120,18 @@ apart_between m = no_moment_between (moment_of (open_second m)) m
 none_between : (has : ℤ → Bool) → HasMomentsAlone (moments_in has)
 none_between has m = and_left _ (has (moment_of (open_second m))) (apart_between m)
 
+NoneOpen-unary : (op : UnaryOp) (set : ℤ → Bool) (a : Result Judged SortFault) → NoneOpen set a
+    → NoneOpen (unary_at op set) (unary_judged op a)
+NoneOpen-unary Not set a h = NoneOpen-spans (λ p. not (set p)) a
+NoneOpen-unary (During seconds) set a h = NoneOpen-during (lasts_at set seconds) a
+NoneOpen-unary Starts set a h =
+    NoneOpen-moments (λ p. is_moment p && begins_at set p) a
+    (λ m. and_left (is_moment (open_second m)) (begins_at set (open_second m)) (apart_between m))
+NoneOpen-unary Ends set a h =
+    NoneOpen-moments (λ p. is_moment p && ends_at set p) a
+    (λ m. and_left (is_moment (open_second m)) (ends_at set (open_second m)) (apart_between m))
+NoneOpen-unary (Shift seconds) set a h = NoneOpen-moved set seconds a h
+
 judged_none_open : (entries : Entries) (t : Tree Rule) → NoneOpen (is_member (meant_of entries t))
     (judge t)
 judged_none_open entries Empty = λ e m. refl
@@ -132,24 +146,11 @@ judged_none_open entries (Ruled (Ical rule)) = λ e. none_between (meaning_of_ic
 judged_none_open entries (Joined op a b) =
     NoneOpen-join op (is_member (meant_of entries a)) (is_member (meant_of entries b)) (judge a)
     (judge b) (judged_none_open entries a) (judged_none_open entries b)
-judged_none_open entries (Not a) =
-    NoneOpen-spans (λ p. not (is_member (meant_of entries a) p)) (judge a)
-judged_none_open entries (During a seconds) =
-    NoneOpen-during (lasts_at (is_member (meant_of entries a)) seconds) (judge a)
 judged_none_open entries (Pairs a b) =
     NoneOpen-pairs (is_between (is_member (meant_of entries a)) (is_member (meant_of entries b)))
     (judge a) (judge b)
-judged_none_open entries (Starts a) =
-    let set = is_member (meant_of entries a) in
-    NoneOpen-moments (λ p. is_moment p && begins_at set p) (judge a)
-    (λ m. and_left (is_moment (open_second m)) (begins_at set (open_second m))
-    (apart_between m))
-judged_none_open entries (Ends a) =
-    let set = is_member (meant_of entries a) in
-    NoneOpen-moments (λ p. is_moment p && ends_at set p) (judge a)
-    (λ m. and_left (is_moment (open_second m)) (ends_at set (open_second m)) (apart_between m))
-judged_none_open entries (Shift a seconds) =
-    NoneOpen-moved (is_member (meant_of entries a)) seconds (judge a) (judged_none_open entries a)
+judged_none_open entries (Unary op a) =
+    NoneOpen-unary op (is_member (meant_of entries a)) (judge a) (judged_none_open entries a)
 
 sorted_none_open : (entries : Entries) (t : Tree Rule) (sort : Sort) (a : Result Judged SortFault)
     → NoneOpen (is_member (meant_of entries t)) a → sort_with t a ≡ Ok sort → sort.kind ≡ Moments
@@ -193,11 +194,37 @@ WhereJudged-made : (P : Type 0) (kind : Kind) (clock : Option Clock) → (kind �
 WhereJudged-made P Moments clock h = WhereJudged-clock P Spans clock (h refl)
 WhereJudged-made P Spans clock h = tt
 
-WhereJudged-during : (P : Type 0) (f : ℤ → Bool) (a : Result Judged SortFault) → WhereJudged P a
-    → NoneOpen f a → WhereJudged (P × HasMomentsAlone f) (during_judged a)
-WhereJudged-during P f (Err fault) h none = tt
-WhereJudged-during P f (Ok a) h none =
-    WhereJudged-made (P × HasMomentsAlone f) a.kind (Some a.clock) (λ kind. (h, none kind))
+WhereJudged-more : (P Q : Type 0) (a : Result Judged SortFault) → Q → WhereJudged P a
+    → WhereJudged (P × Q) a
+WhereJudged-more P Q (Err fault) q h = tt
+WhereJudged-more P Q (Ok a) q h = (h, q)
+
+WhereJudged-during : (P Q : Type 0) (f : ℤ → Bool) (a : Result Judged SortFault)
+    → (HasMomentsAlone f → Q) → WhereJudged P a → NoneOpen f a
+    → WhereJudged (P × Q) (during_judged a)
+WhereJudged-during P Q f (Err fault) q h none = tt
+WhereJudged-during P Q f (Ok a) q h none =
+    WhereJudged-made (P × Q) a.kind (Some a.clock) (λ kind. (h, q (none kind)))
+
+-- the set has moments alone, where it is looked back at
+abbrev IsBacked : UnaryOp → (ℤ → Bool) → Type 0
+IsBacked op f = looks_back op ≡ true → HasMomentsAlone f
+
+WhereJudged-unary : (P : Type 0) (op : UnaryOp) (f : ℤ → Bool) (a : Result Judged SortFault)
+    → WhereJudged P a → NoneOpen f a → WhereJudged (P × IsBacked op f) (unary_judged op a)
+WhereJudged-unary P Not f a h none =
+    WhereJudged-as (P × IsBacked Not f) Spans a
+    (WhereJudged-more P (IsBacked Not f) a (λ e. absurd cc) h)
+WhereJudged-unary P (During seconds) f a h none =
+    WhereJudged-during P (IsBacked (During seconds) f) f a (λ alone e. alone) h none
+WhereJudged-unary P Starts f a h none =
+    WhereJudged-as (P × IsBacked Starts f) Moments a
+    (WhereJudged-more P (IsBacked Starts f) a (λ e. absurd cc) h)
+WhereJudged-unary P Ends f a h none =
+    WhereJudged-as (P × IsBacked Ends f) Moments a
+    (WhereJudged-more P (IsBacked Ends f) a (λ e. absurd cc) h)
+WhereJudged-unary P (Shift seconds) f a h none =
+    WhereJudged-more P (IsBacked (Shift seconds) f) a (λ e. absurd cc) h
 
 both_moments : (x y : Kind) → either_kind x y ≡ Moments → (x ≡ Moments) × (y ≡ Moments)
 both_moments Moments Moments e = (refl, refl)
@@ -226,21 +253,14 @@ judged_sound entries (Ruled (Ical rule)) = tt
 judged_sound entries (Joined op a b) =
     WhereJudged-join (IsSound (meant_of entries a)) (IsSound (meant_of entries b)) op (judge a)
     (judge b) (judged_sound entries a) (judged_sound entries b)
-judged_sound entries (Not a) =
-    WhereJudged-as (IsSound (meant_of entries a)) Spans (judge a) (judged_sound entries a)
-judged_sound entries (During a seconds) =
-    WhereJudged-during (IsSound (meant_of entries a)) (is_member (meant_of entries a)) (judge a)
-    (judged_sound entries a) (judged_none_open entries a)
 judged_sound entries (Pairs a b) =
     WhereJudged-pairs (IsSound (meant_of entries a)) (IsSound (meant_of entries b))
     (is_member (meant_of entries a)) (is_member (meant_of entries b)) (judge a) (judge b)
-    (judged_sound entries a) (judged_sound entries b) (judged_none_open entries a) (judged_none_open
-    entries b)
-judged_sound entries (Starts a) =
-    WhereJudged-as (IsSound (meant_of entries a)) Moments (judge a) (judged_sound entries a)
-judged_sound entries (Ends a) =
-    WhereJudged-as (IsSound (meant_of entries a)) Moments (judge a) (judged_sound entries a)
-judged_sound entries (Shift a seconds) = judged_sound entries a
+    (judged_sound entries a) (judged_sound entries b) (judged_none_open entries a)
+    (judged_none_open entries b)
+judged_sound entries (Unary op a) =
+    WhereJudged-unary (IsSound (meant_of entries a)) op (is_member (meant_of entries a)) (judge a)
+    (judged_sound entries a) (judged_none_open entries a)
 
 sorted_sound : (entries : Entries) (t : Tree Rule) (sort : Sort) (a : Result Judged SortFault)
     → WhereJudged (IsSound (meant_of entries t)) a → sort_with t a ≡ Ok sort

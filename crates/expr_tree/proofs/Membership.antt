@@ -4,18 +4,13 @@ use Rattle.std.proofs.lemmas.Int.{ints}
 use Rattle.std.specs.Int.{int_gap}
 use Rattle.moment_core.specs.Line.{moment_of, position_of}
 use Rattle.moment_core.specs.declared.line.TheConstants.{LOW}
+use Rattle.moment_core.proofs.Gaps.{gap-most}
 use Rattle.moment_core.proofs.LineLaws.{halves}
 use Rattle.expr_tree.specs.Laws.{IsBetweenMoments, LastsFromMoment}
 use Rattle.expr_tree.specs.Members.{moments_of}
 use Rattle.expr_tree.proofs.Backwards.{IsBack, IsOpenBack, is_open-is, some_back-is}
 
--- one number lies so far above the other as the gap between them says, where that is not 0
-gap-least : (a b : ℤ) → b ≤ℤ (a +ℤ pos (int_gap a b))
-gap-least (pos a) (pos b) = omega (arith, ints)
-gap-least (pos a) (negsuc b) = omega (arith, ints)
-gap-least (negsuc a) (pos b) = omega (arith, ints)
-gap-least (negsuc a) (negsuc b) = omega (arith, ints)
-
+-- the gap is the difference where it is not 0
 gap-some : (a b : ℤ) → 0 < int_gap a b → a +ℤ pos (int_gap a b) ≡ b
 gap-some (pos a) (pos b) h = omega (arith, ints)
 gap-some (pos a) (negsuc b) h = absurd (omega (arith, ints))
@@ -40,7 +35,7 @@ lasts-is set seconds p =
           let t : ℤ = r.0 in
           let low : position_of t ≤ℤ p = r.2 in
           let high : p <ℤ position_of (t +ℤ seconds) = r.3 in
-          let least = gap-least (pos 0) seconds in
+          let least = gap-most (pos 0) seconds in
           back.1 (t, omega (arith, ints), omega (arith, ints), r.1)),
     )
 
@@ -67,7 +62,7 @@ between-is opens closes p =
           let t : ℤ = r.0 in
           let low : LOW ≤ℤ t = r.1 in
           let high : position_of t ≤ℤ p = r.3 in
-          let least = gap-least LOW (m +ℤ pos 1) in
+          let least = gap-most LOW (m +ℤ pos 1) in
           back.1 (
             t,
             omega (arith, ints),

@@ -5,7 +5,7 @@ use Rattle.std.proofs.lemmas.Int.{ints}
 use Rattle.moment_core.specs.declared.line.TheConstants.{REACH}
 use Rattle.stored_pair.specs.Meanings.{Entries}
 use Rattle.expr_tree.specs.Sorts.{depth_of, durations_last, judge, node_limit, nodes_of, path_limit, reach_of, reaches_badly, sort_of_tree, sort_with}
-use Rattle.expr_tree.specs.Tree.{Rule, Tree, Empty, Spanned, Ruled, Joined, Not, During, Pairs, Starts, Ends, Shift, meant_of}
+use Rattle.expr_tree.specs.Tree.{Rule, Tree, Empty, Spanned, Ruled, Joined, Pairs, Unary, meant_of}
 use Rattle.expr_tree.specs.declared.sorting.Judged.{Judged}
 use Rattle.expr_tree.specs.declared.sorting.Sort.{Sort}
 use Rattle.expr_tree.specs.declared.sorting.SortFault.{SortFault}
@@ -16,24 +16,16 @@ nodes_of-positive Empty = omega arith
 nodes_of-positive (Spanned bounds low high) = omega arith
 nodes_of-positive (Ruled rule) = omega arith
 nodes_of-positive (Joined op a b) = omega arith
-nodes_of-positive (Not a) = omega arith
-nodes_of-positive (During a seconds) = omega arith
 nodes_of-positive (Pairs a b) = omega arith
-nodes_of-positive (Starts a) = omega arith
-nodes_of-positive (Ends a) = omega arith
-nodes_of-positive (Shift a seconds) = omega arith
+nodes_of-positive (Unary op a) = omega arith
 
 pub depth_of-positive : (t : Tree Rule) → 0 < depth_of t
 depth_of-positive Empty = omega arith
 depth_of-positive (Spanned bounds low high) = omega arith
 depth_of-positive (Ruled rule) = omega arith
 depth_of-positive (Joined op a b) = omega arith
-depth_of-positive (Not a) = omega arith
-depth_of-positive (During a seconds) = omega arith
 depth_of-positive (Pairs a b) = omega arith
-depth_of-positive (Starts a) = omega arith
-depth_of-positive (Ends a) = omega arith
-depth_of-positive (Shift a seconds) = omega arith
+depth_of-positive (Unary op a) = omega arith
 
 -- nothing positive is within a limit of 0
 pub none_within : (n limit : ℕ) → 0 < n → limit ≡ 0 → None ≡ (if nat_le n limit then Some n else
@@ -83,12 +75,8 @@ reach-meant entries Empty = refl
 reach-meant entries (Spanned bounds low high) = refl
 reach-meant entries (Ruled rule) = refl
 reach-meant entries (Joined op a b) = rw (reach-meant entries a, reach-meant entries b) refl
-reach-meant entries (Not a) = reach-meant entries a
-reach-meant entries (During a seconds) = rw (reach-meant entries a) refl
 reach-meant entries (Pairs a b) = rw (reach-meant entries a, reach-meant entries b) refl
-reach-meant entries (Starts a) = rw (reach-meant entries a) refl
-reach-meant entries (Ends a) = rw (reach-meant entries a) refl
-reach-meant entries (Shift a seconds) = rw (reach-meant entries a) refl
+reach-meant entries (Unary op a) = rw (reach-meant entries a) refl
 
 pub reach_of-sorted : (entries : Entries) (t : Tree Rule) (sort : Sort) → sort_of_tree t ≡ Ok sort
     → pos (reach_of (meant_of entries t)) ≤ℤ REACH
@@ -101,12 +89,8 @@ nodes-meant entries Empty = refl
 nodes-meant entries (Spanned bounds low high) = refl
 nodes-meant entries (Ruled rule) = refl
 nodes-meant entries (Joined op a b) = rw (nodes-meant entries a, nodes-meant entries b) refl
-nodes-meant entries (Not a) = rw (nodes-meant entries a) refl
-nodes-meant entries (During a seconds) = rw (nodes-meant entries a) refl
 nodes-meant entries (Pairs a b) = rw (nodes-meant entries a, nodes-meant entries b) refl
-nodes-meant entries (Starts a) = rw (nodes-meant entries a) refl
-nodes-meant entries (Ends a) = rw (nodes-meant entries a) refl
-nodes-meant entries (Shift a seconds) = rw (nodes-meant entries a) refl
+nodes-meant entries (Unary op a) = rw (nodes-meant entries a) refl
 
 nodes_of-limit : (t : Tree Rule) (sort : Sort) → sort_of_tree t ≡ Ok sort → nodes_of t ≤ node_limit
 nodes_of-limit t sort e = not_more (nat_lt node_limit (nodes_of t)) refl e

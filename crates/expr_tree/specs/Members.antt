@@ -1,14 +1,16 @@
 -- Which positions a tree has, for every whole number.
 use Rattle.std.specs.Prelude.{ℤ, pos, ◌+ℤ◌, ◌-ℤ◌, Bool, false, not, ◌&&◌, ◌||◌}
 use Rattle.std.specs.Int.{int_gap}
-use Rattle.moment_core.specs.Line.{moment_of, position_of}
+use Rattle.moment_core.specs.Line.{is_moment, moment_of, position_of}
 use Rattle.moment_core.specs.Sets.{moments_in}
 use Rattle.moment_core.specs.declared.line.TheConstants.{LOW}
 use Rattle.stored_pair.specs.Meanings.{Meaning}
-use Rattle.span_core.specs.Bounds.{is_moment, lies_between}
+use Rattle.span_core.specs.Bounds.{lies_between}
 use Rattle.moment_core.specs.Joining.{joined}
+use Rattle.moment_core.specs.declared.joining.UnaryOp.{UnaryOp}
+use Rattle.moment_core.specs.declared.joining.UnaryOp.TheVariants.{Not, During, Starts, Ends, Shift}
 use Rattle.expr_tree.specs.Backs.{is_open, some_back}
-use Rattle.expr_tree.specs.Tree.{Tree, Empty, Spanned, Ruled, Joined, Not, During, Pairs, Starts, Ends, Shift}
+use Rattle.expr_tree.specs.Tree.{Tree, Empty, Spanned, Ruled, Joined, Pairs, Unary}
 
 -- the moments of a set of positions
 abbrev pub moments_of : (ℤ → Bool) → ℤ → Bool
@@ -33,14 +35,18 @@ is_between opens closes p =
     is_open (moments_of opens) (moments_of closes) (moment_of p)
     (int_gap LOW (moment_of p +ℤ pos 1))
 
+-- the positions of what is made of one set
+abbrev pub unary_at : UnaryOp → (ℤ → Bool) → ℤ → Bool
+unary_at Not set p = not (set p)
+unary_at (During seconds) set p = lasts_at set seconds p
+unary_at Starts set p = is_moment p && begins_at set p
+unary_at Ends set p = is_moment p && ends_at set p
+unary_at (Shift seconds) set p = set (p -ℤ position_of seconds)
+
 abbrev pub is_member : Tree Meaning → ℤ → Bool
 is_member Empty p = false
 is_member (Spanned bounds low high) p = lies_between bounds.0 bounds.1 p
 is_member (Ruled rule) p = moments_in rule.member p
 is_member (Joined op a b) p = joined op (is_member a p) (is_member b p)
-is_member (Not a) p = not (is_member a p)
-is_member (During a seconds) p = lasts_at (is_member a) seconds p
 is_member (Pairs a b) p = is_between (is_member a) (is_member b) p
-is_member (Starts a) p = is_moment p && begins_at (is_member a) p
-is_member (Ends a) p = is_moment p && ends_at (is_member a) p
-is_member (Shift a seconds) p = is_member a (p -ℤ position_of seconds)
+is_member (Unary op a) p = unary_at op (is_member a) p

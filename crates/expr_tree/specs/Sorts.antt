@@ -7,7 +7,9 @@ use Rattle.moment_core.specs.declared.line.Stamp.{Stamp}
 use Rattle.moment_core.specs.declared.line.TheConstants.{REACH}
 use Rattle.moment_core.specs.declared.joining.Op.{Op}
 use Rattle.moment_core.specs.declared.joining.Op.TheVariants.{Union, Meet, Minus}
-use Rattle.expr_tree.specs.Tree.{Rule, Listed, Field, Ical, Tree, Empty, Spanned, Ruled, Joined, Not, During, Pairs, Starts, Ends, Shift}
+use Rattle.moment_core.specs.declared.joining.UnaryOp.{UnaryOp}
+use Rattle.moment_core.specs.declared.joining.UnaryOp.TheVariants.{Not, During, Starts, Ends, Shift}
+use Rattle.expr_tree.specs.Tree.{Rule, Listed, Field, Ical, Tree, Empty, Spanned, Ruled, Joined, Pairs, Unary}
 use Rattle.expr_tree.specs.declared.tree.Kind.{Kind}
 use Rattle.expr_tree.specs.declared.tree.Kind.TheVariants.{Moments, Spans}
 use Rattle.expr_tree.specs.declared.sorting.Judged.{Judged}
@@ -21,52 +23,47 @@ nodes_of Empty = 1
 nodes_of (Spanned bounds low high) = 1
 nodes_of (Ruled rule) = 1
 nodes_of (Joined op a b) = 1 + nodes_of a + nodes_of b
-nodes_of (Not a) = 1 + nodes_of a
-nodes_of (During a seconds) = 1 + nodes_of a
 nodes_of (Pairs a b) = 1 + nodes_of a + nodes_of b
-nodes_of (Starts a) = 1 + nodes_of a
-nodes_of (Ends a) = 1 + nodes_of a
-nodes_of (Shift a seconds) = 1 + nodes_of a
+nodes_of (Unary op a) = 1 + nodes_of a
 
 abbrev pub depth_of : Tree Rule → ℕ
 depth_of Empty = 1
 depth_of (Spanned bounds low high) = 1
 depth_of (Ruled rule) = 1
 depth_of (Joined op a b) = 1 + max (depth_of a) (depth_of b)
-depth_of (Not a) = 1 + depth_of a
-depth_of (During a seconds) = 1 + depth_of a
 depth_of (Pairs a b) = 1 + max (depth_of a) (depth_of b)
-depth_of (Starts a) = 1 + depth_of a
-depth_of (Ends a) = 1 + depth_of a
-depth_of (Shift a seconds) = 1 + depth_of a
+depth_of (Unary op a) = 1 + depth_of a
 
--- the greatest sum, along a path, of absolute shifts, of durations, and of 1 for each place where
--- runs begin or end: how many seconds past the calendar range one may look for a position in it.
--- Pairs look back no farther than to the range's beginning.
+-- how many seconds past a place a set is looked at for what is made of it
+abbrev pub looks_past : UnaryOp → ℕ
+looks_past Not = 0
+looks_past (During seconds) = unsigned_abs seconds
+looks_past Starts = 1
+looks_past Ends = 1
+looks_past (Shift seconds) = unsigned_abs seconds
+
+-- the greatest sum of these along a path: how many seconds past the calendar range one may look for
+-- a position. Pairs look back no farther than to the range's beginning.
 abbrev pub reach_of : {R : Type 0} → Tree R → ℕ
 reach_of Empty = 0
 reach_of (Spanned bounds low high) = 0
 reach_of (Ruled rule) = 0
 reach_of (Joined op a b) = max (reach_of a) (reach_of b)
-reach_of (Not a) = reach_of a
-reach_of (During a seconds) = unsigned_abs seconds + reach_of a
 reach_of (Pairs a b) = max (reach_of a) (reach_of b)
-reach_of (Starts a) = 1 + reach_of a
-reach_of (Ends a) = 1 + reach_of a
-reach_of (Shift a seconds) = unsigned_abs seconds + reach_of a
+reach_of (Unary op a) = looks_past op + reach_of a
 
--- each duration is at least a second
+-- a duration is at least a second, and so is each one of a tree
+abbrev pub lasts : UnaryOp → Bool
+lasts (During seconds) = int_le (pos 1) seconds
+lasts op = true
+
 abbrev pub durations_last : Tree Rule → Bool
 durations_last Empty = true
 durations_last (Spanned bounds low high) = true
 durations_last (Ruled rule) = true
 durations_last (Joined op a b) = durations_last a && durations_last b
-durations_last (Not a) = durations_last a
-durations_last (During a seconds) = int_le (pos 1) seconds && durations_last a
 durations_last (Pairs a b) = durations_last a && durations_last b
-durations_last (Starts a) = durations_last a
-durations_last (Ends a) = durations_last a
-durations_last (Shift a seconds) = durations_last a
+durations_last (Unary op a) = lasts op && durations_last a
 
 -- the one clock of both, if there is one of the first
 abbrev pub one_clock_if : Option Clock → Clock → Option Clock
@@ -134,6 +131,14 @@ pairs_judged (Err fault) b = Err fault
 pairs_judged (Ok a) (Err fault) = Err fault
 pairs_judged (Ok a) (Ok b) = spans_of (either_kind a.kind b.kind) (one_clock a.clock b.clock)
 
+-- the kind and the clock of what is made of one set
+abbrev pub unary_judged : UnaryOp → Result Judged SortFault → Result Judged SortFault
+unary_judged Not a = as_kind Spans a
+unary_judged (During seconds) a = during_judged a
+unary_judged Starts a = as_kind Moments a
+unary_judged Ends a = as_kind Moments a
+unary_judged (Shift seconds) a = a
+
 -- the kind and the clock of a tree, or the fault of the first node that has one: children first,
 -- left before right
 abbrev pub judge : Tree Rule → Result Judged SortFault
@@ -143,12 +148,8 @@ judge (Spanned bounds low high) = with_clock Spans (one_clock low high)
 judge (Ruled (Field rule)) = Ok (record { kind = Moments; clock = clock_of_start rule.start })
 judge (Ruled (Ical rule)) = Ok (record { kind = Moments; clock = clock_of_stamp rule.start })
 judge (Joined op a b) = join_judged op (judge a) (judge b)
-judge (Not a) = as_kind Spans (judge a)
-judge (During a seconds) = during_judged (judge a)
 judge (Pairs a b) = pairs_judged (judge a) (judge b)
-judge (Starts a) = as_kind Moments (judge a)
-judge (Ends a) = as_kind Moments (judge a)
-judge (Shift a seconds) = judge a
+judge (Unary op a) = unary_judged op (judge a)
 
 -- the most nodes that a tree with a sort has, and the most that a path from its root has
 abbrev pub node_limit : ℕ

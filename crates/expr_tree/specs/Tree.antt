@@ -1,11 +1,13 @@
 -- Trees of sets without pointers, of which every definition speaks, over rules as they were written
 -- or over what they mean.
-use Rattle.std.specs.Prelude.{List, Option, option_map, ℤ}
+use Rattle.std.specs.Prelude.{List, Option, option_map}
 use Rattle.moment_core.specs.declared.line.Clock.{Clock}
 use Rattle.moment_core.specs.declared.line.Stamp.{Stamp}
 use Rattle.span_core.specs.declared.bounds.Bound.{Bound}
 use Rattle.moment_core.specs.declared.joining.Op.{Op}
 use Rattle.moment_core.specs.declared.joining.Op.TheVariants.{Union, Meet, Minus}
+use Rattle.moment_core.specs.declared.joining.UnaryOp.{UnaryOp}
+use Rattle.moment_core.specs.declared.joining.UnaryOp.TheVariants.{Not, During, Starts, Ends, Shift}
 use Rattle.stored_pair.specs.Meanings.{Entries, Meaning}
 use Rattle.field_rules.specs.Rules.{meaning_of_field}
 use Rattle.ical_rules.specs.Rules.{meaning_of_ical}
@@ -21,12 +23,8 @@ pub data Tree (R : Type 0) : Type 0 where
   Spanned : (bounds : Bound × Bound) (low high : Clock) → Tree R
   Ruled : (rule : R) → Tree R
   Joined : (op : Op) (a b : Tree R) → Tree R
-  Not : (a : Tree R) → Tree R
-  During : (a : Tree R) (seconds : ℤ) → Tree R
   Pairs : (a b : Tree R) → Tree R
-  Starts : (a : Tree R) → Tree R
-  Ends : (a : Tree R) → Tree R
-  Shift : (a : Tree R) (seconds : ℤ) → Tree R
+  Unary : (op : UnaryOp) (a : Tree R) → Tree R
 
 -- a rule of moments as it was written: each of them, by fields, or by RFC 5545
 pub data Rule : Type 0 where
@@ -43,12 +41,12 @@ tree_of (exprs.Rrule rule) = Ruled (Ical rule)
 tree_of (exprs.Union' x a y b) = Joined Union (tree_of a) (tree_of b)
 tree_of (exprs.Meet' x a y b) = Joined Meet (tree_of a) (tree_of b)
 tree_of (exprs.Minus' x a y b) = Joined Minus (tree_of a) (tree_of b)
-tree_of (exprs.Not' x a) = Not (tree_of a)
-tree_of (exprs.During' x a seconds) = During (tree_of a) seconds
+tree_of (exprs.Not' x a) = Unary Not (tree_of a)
+tree_of (exprs.During' x a seconds) = Unary (During seconds) (tree_of a)
 tree_of (exprs.Pairs' x a y b) = Pairs (tree_of a) (tree_of b)
-tree_of (exprs.Starts' x a) = Starts (tree_of a)
-tree_of (exprs.Ends' x a) = Ends (tree_of a)
-tree_of (exprs.Shift' x a seconds) = Shift (tree_of a) seconds
+tree_of (exprs.Starts' x a) = Unary Starts (tree_of a)
+tree_of (exprs.Ends' x a) = Unary Ends (tree_of a)
+tree_of (exprs.Shift' x a seconds) = Unary (Shift seconds) (tree_of a)
 
 -- one tree, or two
 pub record Trees : Type 0 where
@@ -70,9 +68,5 @@ meant_of entries Empty = Empty
 meant_of entries (Spanned bounds low high) = Spanned bounds low high
 meant_of entries (Ruled rule) = Ruled (meaning_of entries rule)
 meant_of entries (Joined op a b) = Joined op (meant_of entries a) (meant_of entries b)
-meant_of entries (Not a) = Not (meant_of entries a)
-meant_of entries (During a seconds) = During (meant_of entries a) seconds
 meant_of entries (Pairs a b) = Pairs (meant_of entries a) (meant_of entries b)
-meant_of entries (Starts a) = Starts (meant_of entries a)
-meant_of entries (Ends a) = Ends (meant_of entries a)
-meant_of entries (Shift a seconds) = Shift (meant_of entries a) seconds
+meant_of entries (Unary op a) = Unary op (meant_of entries a)

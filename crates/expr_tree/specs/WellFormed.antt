@@ -9,7 +9,7 @@ use Rattle.rule_core.specs.WrittenForm.{HasWeekdays, IsWritable}
 use Rattle.span_core.specs.Bounds.{IsSpan}
 use Rattle.span_core.specs.declared.bounds.Bound.{Bound}
 use Rattle.span_core.specs.declared.bounds.Bound.TheVariants.{Inf}
-use Rattle.expr_tree.specs.Tree.{Rule, Listed, Field, Ical, Tree, Empty, Spanned, Ruled, Joined, Not, During, Pairs, Starts, Ends, Shift, Trees}
+use Rattle.expr_tree.specs.Tree.{Rule, Listed, Field, Ical, Tree, Empty, Spanned, Ruled, Joined, Pairs, Unary, Trees}
 
 -- a bound has any clock exactly where it isn't given
 abbrev pub HasClock : Bound → Clock → Type 0
@@ -28,12 +28,8 @@ IsWellFormed (Ruled (Field rule)) = (check_of rule ≡ Ok tt) × IsCalendarMomen
 IsWellFormed (Ruled (Ical rule)) =
     IsWritable rule × HasWeekdays rule × IsCalendarMoment rule.start.moment.0
 IsWellFormed (Joined op a b) = IsWellFormed a × IsWellFormed b
-IsWellFormed (Not a) = IsWellFormed a
-IsWellFormed (During a seconds) = IsWellFormed a
 IsWellFormed (Pairs a b) = IsWellFormed a × IsWellFormed b
-IsWellFormed (Starts a) = IsWellFormed a
-IsWellFormed (Ends a) = IsWellFormed a
-IsWellFormed (Shift a seconds) = IsWellFormed a
+IsWellFormed (Unary op a) = IsWellFormed a
 
 abbrev pub IsWellFormedSecond : Option (Tree Rule) → Type 0
 IsWellFormedSecond None = Unit {0}

@@ -77,9 +77,9 @@ Repeats-apart op f frame r = record {
   downwards = λ p h. ap op (r.downwards p h);
 }
 
--- a set that stays the same from `hi` upwards and from `lo` downwards
-pub Repeats-constant : (set : ℤ → Bool) (frame : Frame) → ((p : ℤ) → frame.hi.0 ≤ℤ p → set p ≡ set frame.hi.0) → ((p : ℤ) → p ≤ℤ frame.lo.0 → set p ≡ set frame.lo.0) → Repeats set frame
-Repeats-constant set frame above below = record {
+-- a set that has one value from `hi` upwards and one from `lo` downwards
+pub Repeats-constant : (set : ℤ → Bool) (frame : Frame) (v w : Bool) → ((p : ℤ) → frame.hi.0 ≤ℤ p → set p ≡ v) → ((p : ℤ) → p ≤ℤ frame.lo.0 → set p ≡ w) → Repeats set frame
+Repeats-constant set frame v w above below = record {
   upwards = λ p h. above (p +ℤ pos (2 * frame.period)) (omega (arith, ints)) ∙ sym (above p h);
   downwards = λ p h. below (p -ℤ pos (2 * frame.period)) (omega (arith, ints)) ∙ sym (below p h);
 }

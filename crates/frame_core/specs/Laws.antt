@@ -38,12 +38,12 @@ SetsRepeatApart =
     (f : ℤ → Bool) (op : Bool → Bool) (frame : Frame) → Repeats f frame
     → Repeats (λ p. op (f p)) frame
 
--- a set that stays the same from `hi` upwards and from `lo` downwards repeats with any period
+-- a set that has one value from `hi` upwards and one from `lo` downwards repeats with any period
 abbrev pub ConstantSetsRepeat : Type 0
 ConstantSetsRepeat =
-    (set : ℤ → Bool) (frame : Frame)
-    → ((p : ℤ) → frame.hi.0 ≤ℤ p → set p ≡ set frame.hi.0)
-    → ((p : ℤ) → p ≤ℤ frame.lo.0 → set p ≡ set frame.lo.0) → Repeats set frame
+    (set : ℤ → Bool) (frame : Frame) (v w : Bool)
+    → ((p : ℤ) → frame.hi.0 ≤ℤ p → set p ≡ v)
+    → ((p : ℤ) → p ≤ℤ frame.lo.0 → set p ≡ w) → Repeats set frame
 
 -- the greatest common divisor and the least common multiple are what their names say
 abbrev pub DivisorsAreGreatest : Type 0

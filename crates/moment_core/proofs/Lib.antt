@@ -3,6 +3,7 @@ pub mod Counting
 pub mod CycleLaws
 pub mod DateLaws
 pub mod FloorLemmas
+pub mod Gaps
 pub mod LineLaws
 pub mod Lists
 pub mod MonthLaws

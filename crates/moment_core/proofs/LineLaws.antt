@@ -1,9 +1,9 @@
 -- Steps on the line, what is seen on the way, and the nearest places that a search finds.
-use Rattle.std.proofs.Common.{◌≡◌, inl, inr, ap, refl, sym, subst, ◌∙◌, arith, ℕ, ◌+◌, ◌*◌, ◌≤◌, ℤ, pos, negsuc, ◌+ℤ◌, ◌-ℤ◌, ◌≤ℤ◌, ◌<◌, Bool, ◌&&◌}
+use Rattle.std.proofs.Common.{◌≡◌, inl, inr, ap, refl, sym, subst, ◌∙◌, arith, ℕ, ◌+◌, ◌*◌, ◌≤◌, ℤ, pos, negsuc, ◌+ℤ◌, ◌-ℤ◌, ◌≤ℤ◌, ◌<◌, Bool, true, false, ◌&&◌}
 use Rattle.std.specs.Ordering.{int_eq}
 use Rattle.std.proofs.lemmas.Bool.{and_left, cases_Bool, cases_order, true≢false}
 use Rattle.std.proofs.lemmas.Int.{ints}
-use Rattle.moment_core.specs.Line.{IsCalendarMoment, IsCalendarPosition, IsWorkingMoment, moment_of, position_of}
+use Rattle.moment_core.specs.Line.{IsCalendarMoment, IsCalendarPosition, IsWorkingMoment, is_moment, moment_of, position_of}
 use Rattle.moment_core.specs.Sets.{DiffersFirst, IsNextChange, ahead, moments_in, seen}
 use Rattle.moment_core.specs.Steps.{IsNextCandidate, IsNextStep, MeetsFirst, NoCandidateLeft}
 use Rattle.moment_core.specs.declared.line.Dir.{Dir}
@@ -13,7 +13,7 @@ use Rattle.moment_core.specs.declared.line.Step.{Step}
 use Rattle.moment_core.specs.declared.line.Step.TheVariants.{Hit, Pass, End}
 use Rattle.moment_core.specs.declared.line.TheConstants.{LOW, WIDTH}
 use Rattle.moment_core.proofs.Truths.{not_both}
-use Rattle.moment_core.proofs.Comparing.{int_eq-is, int_eq-same}
+use Rattle.moment_core.proofs.Comparing.{int_eq-is, int_eq-same, less_if_other}
 use Rattle.moment_core.proofs.FloorLemmas.{floor_arith}
 
 -- no step, and so many steps and then so many more
@@ -53,6 +53,17 @@ seen-on set dir p q m n e = ap (λ z. seen set dir z n) e ∙ seen-ahead set dir
 pub halves : (p : ℤ) → (position_of (moment_of p) ≤ℤ p) × (p ≤ℤ (position_of (moment_of p) +ℤ pos 1))
 halves (pos n) = (omega (arith, ints), omega (arith, ints))
 halves (negsuc n) = (omega (arith, ints), omega (arith, ints))
+
+-- a position is a moment's, or the open second after it
+pub at_moment : (p : ℤ) → is_moment p ≡ true → position_of (moment_of p) ≡ p
+at_moment p e = int_eq-is (position_of (moment_of p)) p e
+
+pub at_open_second : (p : ℤ) → is_moment p ≡ false → position_of (moment_of p) +ℤ pos 1 ≡ p
+at_open_second p e =
+    let near = halves p in
+    let past : (position_of (moment_of p) +ℤ pos 1) ≤ℤ p =
+    less_if_other (position_of (moment_of p)) p e near.0 in
+    omega (arith, ints)
 
 pub moment-of-position : (t : ℤ) → moment_of (position_of t) ≡ t
 moment-of-position t = let near = halves (position_of t) in omega (arith, ints, near.0, near.1)

@@ -16,5 +16,11 @@ pub not_both : (x : Bool) → x ≡ not x → ⊥
 not_both true e = cc
 not_both false e = cc
 
+-- two truth values that imply each other are one
+pub same_truth : (x y : Bool) → (x ≡ true → y ≡ true) → (y ≡ true → x ≡ true) → x ≡ y
+same_truth true y h k = sym (h refl)
+same_truth false true h k = k refl
+same_truth false false h k = refl
+
 pub true-false : (b : Bool) → b ≡ true → b ≡ false → ⊥
 true-false b t f = let e : true ≡ false = sym t ∙ f in absurd cc

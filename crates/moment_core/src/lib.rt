@@ -16,7 +16,7 @@ mod week;
 
 pub use calendar::calendar_laws;
 pub use counter::Steps;
-pub use joining::Op;
+pub use joining::{Op, UnaryOp};
 pub use laws::line_laws;
 pub use line::{
     Clock, Dir, G, HIGH, LOW, Moment, Pos, REACH, Stamp, Step, WIDTH, Window, floor, in_range,

@@ -3,7 +3,7 @@ ghost use Rattle.moment_core.specs.Line.{IsCalendarPosition};
 ghost use Rattle.expr_tree.specs.Tree.{meant_of, tree_of};
 ghost use Rattle.stored_pair.specs.Names.{entries_of};
 ghost use Rattle.cert_audit.specs.Lowered.{CanBeReady, meant_of_ready};
-ghost use Rattle.cert_audit.specs.Settling.{AreSettled, IsFaultOf};
+ghost use Rattle.lowered_tree.specs.Settling.{AreSettled, IsFaultOf};
 ghost use Rattle.search_core.specs.Due.{IsTestOf};
 ghost use Rattle.plan_core.specs.Plans.{AnswersFor, meant_of_plan};
 

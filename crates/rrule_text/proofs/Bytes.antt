@@ -1,10 +1,10 @@
 -- The bytes of pieces: capitals leave them as they are, and no semicolon is among them.
-use Rattle.std.proofs.Common.{◌≡◌, ℕ, Bool, true, ◌||◌, ◌==◌, List, [], ◌∷◌, get_or, map, refl, arith}
+use Rattle.std.proofs.Common.{◌≡◌, ℕ, Bool, true, ◌||◌, ◌==◌, List, [], ◌∷◌, map, refl, arith}
 use Rattle.std.specs.Char.{to_ascii_uppercase}
 use Rattle.std.specs.List.{list_all}
 use Rattle.std.proofs.lemmas.Bool.{and_parts}
 use Rattle.std.proofs.lemmas.Bool.Decides.{nat_tests}
-use Rattle.std.proofs.lemmas.List.Sums.{AllPass-from_list_all, list_all-from_AllPass}
+use Rattle.moment_core.proofs.Lists.{all_weaker}
 use Rattle.rrule_values.specs.Laws.{is_value_byte}
 use Rattle.rrule_values.specs.Splitting.{is_other}
 use Rattle.rrule_text.specs.Laws.{is_plain}
@@ -14,19 +14,19 @@ abbrev pub spoken : ℕ → Bool
 spoken b = is_value_byte b || (b == 61)
 
 pub value_spoken : (x : List ℕ) → list_all is_value_byte x ≡ true → list_all spoken x ≡ true
-value_spoken x each = list_all-from_AllPass spoken x (λ k d lt. one (get_or x k d) (AllPass-from_list_all is_value_byte x each k d lt))
+value_spoken x each = all_weaker is_value_byte spoken one x each
   where
     one : (b : ℕ) → is_value_byte b ≡ true → spoken b ≡ true
     one b h = grind (arith, nat_tests)
 
 pub spoken_lacks : (x : List ℕ) → list_all spoken x ≡ true → list_all (is_other 59) x ≡ true
-spoken_lacks x each = list_all-from_AllPass (is_other 59) x (λ k d lt. one (get_or x k d) (AllPass-from_list_all spoken x each k d lt))
+spoken_lacks x each = all_weaker spoken (is_other 59) one x each
   where
     one : (b : ℕ) → spoken b ≡ true → is_other 59 b ≡ true
     one b h = grind (arith, nat_tests)
 
 pub spoken_plain : (x : List ℕ) → list_all spoken x ≡ true → list_all is_plain x ≡ true
-spoken_plain x each = list_all-from_AllPass is_plain x (λ k d lt. one (get_or x k d) (AllPass-from_list_all spoken x each k d lt))
+spoken_plain x each = all_weaker spoken is_plain one x each
   where
     one : (b : ℕ) → spoken b ≡ true → is_plain b ≡ true
     one b h = grind (arith, nat_tests)

@@ -14,7 +14,7 @@ ghost use Rattle.rrule_text.specs.Writing.{behind_sign, days_of, interval_text, 
 use crate::laws::text_laws;
 use crate::names::key;
 use moment_core::{Moment, Weekday};
-use rrule_values::{day_name, freq_name, put_date_time, put_number};
+use rrule_values::{day_name, freq_name, put_date_time, put_items, put_number, put_numbers};
 use rule_core::{DayItem, IcalRule, Part, rule_laws};
 use std::alloc::{AllocError, Global};
 
@@ -26,7 +26,7 @@ fn put_key(out: &mut Vec<u8>, part: Part) -> Result<(), AllocError>
     out.extend_from_slice(key(part))
 }
 
-fn put_items(out: &mut Vec<u8>, items: &[DayItem]) -> Result<(), AllocError>
+fn put_by_day(out: &mut Vec<u8>, items: &[DayItem]) -> Result<(), AllocError>
     ensures weekdays { OnOk result (AreWeekdays items.now) }
     ensures text { OnOk result (out.new.items
         ≡ out.old.items ++ behind_sign parts.ByDay (listed_text item_text items.now)) }
@@ -35,10 +35,10 @@ fn put_items(out: &mut Vec<u8>, items: &[DayItem]) -> Result<(), AllocError>
         return Ok(());
     }
     put_key(out, Part::ByDay)?;
-    rrule_values::put_items(out, items)
+    put_items(out, items)
 }
 
-fn put_numbers(out: &mut Vec<u8>, part: Part, numbers: &[i64]) -> Result<(), AllocError>
+fn put_list(out: &mut Vec<u8>, part: Part, numbers: &[i64]) -> Result<(), AllocError>
     ensures { OnOk result (out.new.items
         ≡ out.old.items ++ behind_sign part (listed_text signed_decimal numbers.now)) }
 {
@@ -46,7 +46,7 @@ fn put_numbers(out: &mut Vec<u8>, part: Part, numbers: &[i64]) -> Result<(), All
         return Ok(());
     }
     put_key(out, part)?;
-    rrule_values::put_numbers(out, numbers)
+    put_numbers(out, numbers)
 }
 
 fn put_until(out: &mut Vec<u8>, until: Option<Moment>, with_z: bool) -> Result<(), AllocError>
@@ -113,11 +113,11 @@ fn put_days(out: &mut Vec<u8>, rule: &IcalRule) -> Result<(), AllocError>
     ensures text { OnOk result
         (out.new.items ≡ out.old.items ++ flat_map part_text (days_of rule.now)) }
 {
-    put_numbers(out, Part::ByMonth, rule.by_month.items())?;
-    put_numbers(out, Part::ByWeekNo, rule.by_week.items())?;
-    put_numbers(out, Part::ByYearDay, rule.by_year_day.items())?;
-    put_numbers(out, Part::ByMonthDay, rule.by_month_day.items())?;
-    put_items(out, rule.by_day.items())
+    put_list(out, Part::ByMonth, rule.by_month.items())?;
+    put_list(out, Part::ByWeekNo, rule.by_week.items())?;
+    put_list(out, Part::ByYearDay, rule.by_year_day.items())?;
+    put_list(out, Part::ByMonthDay, rule.by_month_day.items())?;
+    put_by_day(out, rule.by_day.items())
 }
 
 // The parts from BYHOUR to WKST.
@@ -126,10 +126,10 @@ fn put_times(out: &mut Vec<u8>, rule: &IcalRule) -> Result<(), AllocError>
     ensures text { OnOk result
         (out.new.items ≡ out.old.items ++ flat_map part_text (times_of rule.now)) }
 {
-    put_numbers(out, Part::ByHour, rule.by_hour.items())?;
-    put_numbers(out, Part::ByMinute, rule.by_minute.items())?;
-    put_numbers(out, Part::BySecond, rule.by_second.items())?;
-    put_numbers(out, Part::BySetPos, rule.by_set_pos.items())?;
+    put_list(out, Part::ByHour, rule.by_hour.items())?;
+    put_list(out, Part::ByMinute, rule.by_minute.items())?;
+    put_list(out, Part::BySecond, rule.by_second.items())?;
+    put_list(out, Part::BySetPos, rule.by_set_pos.items())?;
     put_week_start(out, rule.week_start)
 }
 

@@ -6,11 +6,12 @@ use Rattle.std.proofs.lemmas.Bool.{and_from}
 use Rattle.std.proofs.lemmas.List.{append-nil, take_more}
 use Rattle.std.proofs.lemmas.List.Concat.{flat_map-append}
 use Rattle.std.proofs.lemmas.List.Folds.{list_all-append}
+use Rattle.moment_core.proofs.Lists.{all_weaker}
 use Rattle.rrule_values.specs.Laws.{IsBack, is_value_byte}
 use Rattle.rrule_values.specs.Splitting.{behind, is_other, split_at}
 use Rattle.rrule_values.specs.Writing.{list_text, next_text}
 use Rattle.rrule_values.proofs.Splitting.{joined_cut}
-use Rattle.rrule_values.proofs.Words.{no_comma, weaken, word, word_plain}
+use Rattle.rrule_values.proofs.Words.{no_comma, word, word_plain}
 
 module _ {X : Type 0} (text : X → List ℕ) (read : List ℕ → Option X) where
   -- its text is a word, and is read back
@@ -19,7 +20,7 @@ module _ {X : Type 0} (text : X → List ℕ) (read : List ℕ → Option X) whe
     pub back : read (text x) ≡ Some x
 
   pub word_back : (x : X) → IsWord x → IsBack text read x
-  word_back x w = record { back = w.back; plain = weaken word is_value_byte word_plain (text x) w.words }
+  word_back x w = record { back = w.back; plain = all_weaker word is_value_byte word_plain (text x) w.words }
 
   abbrev pub AreWords : List X → Type 0
   AreWords [] = Unit {0}
@@ -32,7 +33,7 @@ module _ {X : Type 0} (text : X → List ℕ) (read : List ℕ → Option X) whe
   all_lack : (xs : List X) → AreWords xs → list_all (λ t. list_all (is_other 44) t) (map text xs) ≡ true
   all_lack [] each = refl
   all_lack (x ∷ xs) each =
-      and_from (list_all (is_other 44) (text x)) (list_all (λ t. list_all (is_other 44) t) (map text xs)) (weaken word (is_other 44) no_comma (text x) each.0.words) (all_lack xs each.1)
+      and_from (list_all (is_other 44) (text x)) (list_all (λ t. list_all (is_other 44) t) (map text xs)) (all_weaker word (is_other 44) no_comma (text x) each.0.words) (all_lack xs each.1)
 
   pub cut : (x : X) (xs : List X) → AreWords (x ∷ xs) → split_at 44 (list_text text (x ∷ xs)) ≡ map text (x ∷ xs)
   cut x xs each = rw (more xs) (joined_cut 44 (text x) (map text xs) (all_lack (x ∷ xs) each))

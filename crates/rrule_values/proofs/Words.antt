@@ -12,6 +12,7 @@ use Rattle.std.proofs.lemmas.Fmt.{decimal_nonempty}
 use Rattle.std.proofs.lemmas.Int.{ints}
 use Rattle.std.proofs.lemmas.List.Folds.{list_all-append}
 use Rattle.std.proofs.Math.Seq.{drop-append_seam, take-append_seam}
+use Rattle.moment_core.proofs.Lists.{all_weaker}
 use Rattle.rule_core.specs.declared.lists.DayItem.{DayItem}
 use Rattle.rrule_values.specs.Laws.{is_value_byte}
 use Rattle.rrule_values.specs.Names.{day_name, day_named}
@@ -24,12 +25,6 @@ use Rattle.rrule_values.proofs.Numerals.{decimal_digits, number_back}
 abbrev pub word : ℕ → Bool
 word b = (nat_le 48 b && nat_le b 57) || (nat_le 65 b && nat_le b 90) || (b == 45)
 
-pub weaken : (p q : ℕ → Bool) → ((b : ℕ) → p b ≡ true → q b ≡ true) → (xs : List ℕ) → list_all p xs ≡ true → list_all q xs ≡ true
-weaken p q h [] each = refl
-weaken p q h (b ∷ xs) each =
-    let parts = and_parts (p b) (list_all p xs) each in
-    and_from (q b) (list_all q xs) (h b parts.0) (weaken p q h xs parts.1)
-
 pub no_comma : (b : ℕ) → word b ≡ true → is_other 44 b ≡ true
 no_comma b h = grind (arith, nat_tests)
 
@@ -40,7 +35,7 @@ digit_word : (b : ℕ) → is_ascii_digit b ≡ true → word b ≡ true
 digit_word b h = grind (arith, nat_tests)
 
 pub decimal_words : (n : ℕ) → n < 2 ^ 64 → list_all word (decimal n) ≡ true
-decimal_words n small = weaken is_ascii_digit word digit_word (decimal n) (decimal_digits n small)
+decimal_words n small = all_weaker is_ascii_digit word digit_word (decimal n) (decimal_digits n small)
 
 pub signed_words : (z : ℤ) → unsigned_abs z < 10 ^ 10 → list_all word (signed_decimal z) ≡ true
 signed_words (pos n) small = decimal_words n (omega arith)

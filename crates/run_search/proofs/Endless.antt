@@ -2,7 +2,7 @@
 use Rattle.std.proofs.Common.{◌≡◌, refl, sym, ◌∙◌, arith, ℤ, pos, ◌+ℤ◌, Bool, true, false, Option, Some, None, if◌then◌else◌, subst}
 use Rattle.std.specs.Ordering.{int_eq}
 use Rattle.std.proofs.lemmas.Int.{ints}
-use Rattle.moment_core.specs.Line.{IsCalendarPosition, moment_of, position_of}
+use Rattle.moment_core.specs.Line.{IsCalendarPosition, is_moment, moment_of, position_of}
 use Rattle.moment_core.specs.Sets.{ahead, IsUpTo, range_end}
 use Rattle.moment_core.specs.declared.line.Dir.{Dir}
 use Rattle.moment_core.specs.declared.line.Dir.TheVariants.{Fore, Back}
@@ -10,7 +10,7 @@ use Rattle.moment_core.specs.declared.line.TheConstants.{LOW, HIGH}
 use Rattle.moment_core.specs.declared.line.Window.{Window}
 use Rattle.moment_core.proofs.Order.{ahead_up_to, up_to_end}
 use Rattle.moment_core.proofs.Comparing.{int_eq-is}
-use Rattle.span_core.specs.Bounds.{high_bound, is_moment, low_bound}
+use Rattle.span_core.specs.Bounds.{high_bound, low_bound}
 use Rattle.span_core.specs.declared.bounds.Bound.TheVariants as bounds
 use Rattle.frame_core.specs.Frames.{HasPeriod, RepeatsIfFramed, window_if_framed}
 use Rattle.frame_core.specs.Laws.{NeverIsForEver}

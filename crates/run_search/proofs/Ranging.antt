@@ -2,7 +2,7 @@
 use Rattle.std.proofs.Common.{◌≡◌, inl, inr, sym, subst, refl, arith, ℕ, zero, suc, ◌<◌, ℤ, pos, ◌+ℤ◌, ◌-ℤ◌, ◌≤ℤ◌, Bool, true, false, Option, Some, None, if◌then◌else◌}
 use Rattle.std.specs.Ordering.{int_eq}
 use Rattle.std.proofs.lemmas.Int.{ints}
-use Rattle.moment_core.specs.Line.{IsCalendarMoment, IsCalendarPosition, moment_of, position_of}
+use Rattle.moment_core.specs.Line.{IsCalendarMoment, IsCalendarPosition, is_moment, moment_of, position_of}
 use Rattle.moment_core.specs.Sets.{ahead, IsNextChange}
 use Rattle.moment_core.specs.declared.line.Dir.{Dir}
 use Rattle.moment_core.specs.declared.line.Dir.TheVariants.{Fore, Back}
@@ -10,7 +10,7 @@ use Rattle.moment_core.specs.declared.line.TheConstants.{LOW, HIGH}
 use Rattle.moment_core.specs.declared.line.Window.{Window}
 use Rattle.moment_core.proofs.LineLaws.{halves, moment_in_range}
 use Rattle.moment_core.proofs.Comparing.{less_if_other}
-use Rattle.span_core.specs.Bounds.{IsCalendarBound, IsCalendarRun, high_bound, is_moment, low_bound}
+use Rattle.span_core.specs.Bounds.{IsCalendarBound, IsCalendarRun, high_bound, low_bound}
 use Rattle.span_core.specs.declared.bounds.Bound.TheVariants as bounds
 use Rattle.run_search.specs.Places.{IsPlaceWithin}
 use Rattle.run_search.specs.Runs.{beyond, high_end, item_between, low_end}

@@ -2,6 +2,7 @@
 -- candidates of a search.
 use Rattle.std.proofs.Common.{arith, inl, inr, ℕ, ◌+◌, ◌*◌, ◌<◌, ◌≤◌, ℤ, pos, ◌+ℤ◌, ◌-ℤ◌, ◌≤ℤ◌, Bool, Option, max, subst}
 use Rattle.std.proofs.Math.Nat.{le-max_left, le-max_right}
+use Rattle.std.proofs.lemmas.Bool.{both_ways}
 use Rattle.std.proofs.lemmas.Int.{ints}
 use Rattle.moment_core.specs.Line.{IsCalendarPosition, position_of}
 use Rattle.moment_core.specs.Sets.{ahead, IsUpTo}
@@ -19,17 +20,20 @@ use Rattle.frame_core.specs.Laws.{IsWindowPast, WindowsLie}
 use Rattle.frame_core.specs.declared.frames.Frame.{Frame}
 use Rattle.expr_tree.specs.Members.{is_member}
 use Rattle.expr_tree.specs.Sorts.{nodes_of, reach_of}
+use Rattle.expr_tree.specs.Sound.{looks_back}
 use Rattle.stored_pair.specs.Meanings.{Meaning}
-use Rattle.expr_tree.specs.Tree.{Tree, Empty, Spanned, Ruled, Joined, Not, During, Pairs, Starts, Ends, Shift}
+use Rattle.expr_tree.specs.Tree.{Tree, Empty, Spanned, Ruled, Joined, Pairs, Unary}
 use Rattle.search_core.specs.Ample.{IsAmple, IsMost, LooksAhead, copies_of, counted_up_to}
 use Rattle.search_core.specs.Candidates.{candidates}
 use Rattle.search_core.specs.Due.{IsDueAt}
 use Rattle.search_core.specs.Laws.{AheadNeverStopsTests, AmpleNeverStops, AmpleNeverStopsTests, EnoughNeverStops}
-use Rattle.search_core.specs.LookingBack.{during_from, pairs_from}
+use Rattle.search_core.specs.LookingBack.{pairs_from}
 use Rattle.search_core.specs.TreeFrames.{frame_of_tree}
-use Rattle.search_core.proofs.Counting.{candidates-within}
-use Rattle.search_core.proofs.Days.{IsShort, above_all, below_ample, longest-working, most_candidates, on_all_days}
-use Rattle.search_core.proofs.Latest.{during_from-least, pairs_from-least}
+use Rattle.search_core.specs.Unary.{looks_from, looks_to}
+use Rattle.search_core.proofs.Candidates.{candidates-within}
+use Rattle.search_core.proofs.Days.{above_all, below_ample, longest, longest-working, most_candidates, on_all_days}
+use Rattle.search_core.proofs.Latest.{pairs_from-least}
+use Rattle.search_core.proofs.Unary.{IsShort, looks_from-least, looks_to-most, unary-copied}
 
 no_more : (t : Tree Meaning) (dir : Dir) (p end : ℤ) (n : ℕ) → IsUpTo dir end (ahead dir p n)
     → counted_to (candidates t) dir p n ≤ counted_up_to (candidates t) dir p end
@@ -88,13 +92,11 @@ ahead_never (Joined op x y) n budget s q ahead due = elim due [
   | inl one ↦ ahead_never x (n + 1) budget s q ahead.0 one
   | inr other ↦ ahead_never y (n + 1 + nodes_of x) budget s q ahead.1 other
 ]
-ahead_never (Not x) n budget s q ahead due = ahead_never x (n + 1) budget s q ahead due
-ahead_never (During x seconds) n budget s q ahead due = absurd ahead
 ahead_never (Pairs x y) n budget s q ahead due = absurd ahead
-ahead_never (Starts x) n budget s q ahead due = ahead_never x (n + 1) budget s due.0 ahead due.3
-ahead_never (Ends x) n budget s q ahead due = ahead_never x (n + 1) budget s due.0 ahead due.3
-ahead_never (Shift x seconds) n budget s q ahead due =
-    ahead_never x (n + 1) budget s (q -ℤ position_of seconds) ahead due
+ahead_never (Unary op x) n budget s q ahead due = elim due [
+  | inl own ↦ both_ways (looks_back op) ahead.0 own.0
+  | inr inner ↦ ahead_never x (n + 1) budget s inner.0 ahead.1 inner.3
+]
 
 pub ahead_never_stops_tests : AheadNeverStopsTests
 ahead_never_stops_tests tree p budget ahead s due = ahead_never tree 1 budget s p ahead due
@@ -149,27 +151,6 @@ due_most (Joined op x y) number m budget s q most reach low due =
           (less_reach k (max r k) (le-max_right r k) reach) (less_low k (max r k) q
           (le-max_right r k) low) other)
     ]
-due_most (Not x) number m budget s q most reach low due =
-    due_most x (number + 1) m budget s q most reach low due
-due_most (During x seconds) number m budget s q most reach low due =
-    let from = during_from-least (is_member x) seconds q in
-    elim due as (λ _. budget ≤ copies_of (During x seconds) * on_all_days m) [
-      | inl own ↦
-          let length = longest-working in
-          let within : during_from (is_member x) seconds q ≤ℤ s.at.0 = own.1.within in
-          let all = most_candidates (During x seconds) m most s.at.0 q (omega (arith, ints)) in
-          let used : budget ≤ candidates (During x seconds) s.at.0 q = own.1.used in
-          omega arith
-      | inr inner ↦
-          let high : inner.0 ≤ℤ q = inner.2 in
-          let one =
-          due_most x (number + 1) m budget s inner.0 most (omega (arith, ints))
-          (omega (arith, ints)) inner.3 in
-          twice (copies_of x) (on_all_days m) one
-    ]
-  where
-    twice : (c n : ℕ) → budget ≤ c * n → budget ≤ (2 * c) * n
-    twice c n h = grind (arith, h)
 due_most (Pairs x y) number m budget s q most reach low due =
     let from = pairs_from-least (is_member x) (is_member y) q in
     let r = reach_of x in
@@ -180,7 +161,7 @@ due_most (Pairs x y) number m budget s q most reach low due =
           let within : pairs_from (is_member x) (is_member y) q ≤ℤ s.at.0 = own.1.within in
           let before : s.at.0 ≤ℤ q = own.1.before in
           let used : budget ≤ candidates (Pairs x y) s.at.0 q = own.1.used in
-          let short : IsShort (max r k) s.at.0 q = elim from [
+          let short : IsShort longest (max r k) s.at.0 q = elim from [
             | inl same ↦ omega (arith, ints)
             | inr above ↦ omega (arith, ints)
           ] in
@@ -200,15 +181,22 @@ due_most (Pairs x y) number m budget s q most reach low due =
                 (less_low k (max r k) inner.0 (le-max_right r k) under) other)
           ]
     ]
-due_most (Starts x) number m budget s q most reach low due =
-    let high : due.0 ≤ℤ (q +ℤ pos 1) = due.2 in
-    due_most x (number + 1) m budget s due.0 most (omega (arith, ints)) (omega (arith, ints)) due.3
-due_most (Ends x) number m budget s q most reach low due =
-    let high : due.0 ≤ℤ (q +ℤ pos 1) = due.2 in
-    due_most x (number + 1) m budget s due.0 most (omega (arith, ints)) (omega (arith, ints)) due.3
-due_most (Shift x seconds) number m budget s q most reach low due =
-    due_most x (number + 1) m budget s (q -ℤ position_of seconds) most (omega (arith, ints))
-    (omega (arith, ints)) due
+due_most (Unary op x) number m budget s q most reach low due =
+    let from = looks_from-least op (is_member x) q in
+    let to = looks_to-most op q in
+    elim due as (λ _. budget ≤ copies_of (Unary op x) * on_all_days m) [
+      | inl own ↦
+          let length = longest-working in
+          let within : looks_from op (is_member x) q ≤ℤ s.at.0 = own.2.within in
+          let all = most_candidates (Unary op x) m most s.at.0 q (omega (arith, ints)) in
+          let used : budget ≤ candidates (Unary op x) s.at.0 q = own.2.used in
+          omega arith
+      | inr inner ↦
+          let high : inner.0 ≤ℤ looks_to op q = inner.2 in
+          unary-copied op (copies_of x) (on_all_days m) budget
+          (due_most x (number + 1) m budget s inner.0 most (omega (arith, ints))
+          (omega (arith, ints)) inner.3)
+    ]
 
 -- from the calendar range a tree looks no farther than the working range
 calendar_is_low : (reach : ℕ) (q : ℤ) → pos reach ≤ℤ REACH → IsCalendarPosition q → IsLow reach q

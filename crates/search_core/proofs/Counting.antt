@@ -1,13 +1,10 @@
--- Candidates of stretches that lie apart.
+-- What is counted over a stretch, its parts, and a stretch round it.
 use Rattle.std.proofs.Common.{◌≡◌, ◌⊎◌, refl, ap, sym, ◌∙◌, int_lt, inl, inr, arith, ℕ, zero, suc, ◌+◌, ◌≤◌, ℤ, pos, negsuc, ◌+ℤ◌, ◌-ℤ◌, ◌≤ℤ◌, ◌<ℤ◌, unsigned_abs, Bool, true, false, ◌||◌, cond}
 use Rattle.std.proofs.lemmas.Int.{ints}
 use Rattle.std.specs.Int.{int_gap}
-use Rattle.moment_core.specs.Line.{position_of}
-use Rattle.moment_core.specs.Sets.{moments_in}
-use Rattle.stored_pair.specs.Meanings.{Meaning}
-use Rattle.expr_tree.specs.Tree.{Tree, Empty, Spanned, Ruled, Joined, Not, During, Pairs, Starts, Ends, Shift}
-use Rattle.search_core.specs.Candidates.{bounds_at, candidates, count_between, count_from, counted_earlier, counted_round, is_candidate}
-use Rattle.search_core.proofs.Gaps.{gap-none}
+use Rattle.moment_core.proofs.Gaps.{gap-none}
+use Rattle.search_core.specs.Candidates.{count_between, count_from}
+use Rattle.search_core.specs.Unary.{counted_earlier, counted_round}
 
 pub count_from-zero : (test : ℤ → Bool) (p : ℤ) → count_from test p 0 ≡ 0
 unfolding count_from
@@ -71,7 +68,7 @@ count_between-split test a m b am mb =
     ap (λ p. count_from test p y) place in
     omega arith
 
-count_between-none : (test : ℤ → Bool) (a b : ℤ) → b <ℤ a → count_between test a b ≡ 0
+pub count_between-none : (test : ℤ → Bool) (a b : ℤ) → b <ℤ a → count_between test a b ≡ 0
 unfolding count_between
 count_between-none test a b h =
     ap (count_from test a) (gap-none a (b +ℤ pos 1) (omega (arith, ints)))
@@ -134,11 +131,11 @@ count_between-either : (f g : ℤ → Bool) (a b : ℤ) → count_between (λ q.
 unfolding count_between
 count_between-either f g a b = count_from-either f g a (int_gap a (b +ℤ pos 1))
 
-count_between-never : (a b : ℤ) → count_between (λ q. false) a b ≡ 0
+pub count_between-never : (a b : ℤ) → count_between (λ q. false) a b ≡ 0
 unfolding count_between
 count_between-never a b = count_from-never a (int_gap a (b +ℤ pos 1))
 
-count_between-parts : (test : ℤ → Bool) (a m b : ℤ) → count_between test a b ≤ count_between test a
+pub count_between-parts : (test : ℤ → Bool) (a m b : ℤ) → count_between test a b ≤ count_between test a
     m + count_between test (m +ℤ pos 1) b
 count_between-parts test a m b = elim (cases_sign (m +ℤ pos 1 -ℤ a)) [
   | inl past ↦ elim (cases_sign (b -ℤ m)) [
@@ -155,13 +152,13 @@ count_between-parts test a m b = elim (cases_sign (m +ℤ pos 1 -ℤ a)) [
       omega arith
 ]
 
-both_parts : (one other : ℤ → ℤ → ℕ) (a m b : ℤ) → one a b ≤ one a m + one (m +ℤ pos 1) b
+pub both_parts : (one other : ℤ → ℤ → ℕ) (a m b : ℤ) → one a b ≤ one a m + one (m +ℤ pos 1) b
     → other a b ≤ other a m + other (m +ℤ pos 1) b → one a b + other a b ≤ one a m + other a
     m + (one (m +ℤ pos 1) b + other (m +ℤ pos 1) b)
 both_parts one other a m b h k = omega arith
 
 -- what is counted so many positions earlier, in parts
-earlier_parts : (count : ℤ → ℤ → ℕ) (s a m b : ℤ) → ((x y z : ℤ) → count x z ≤ count x y + count
+pub earlier_parts : (count : ℤ → ℤ → ℕ) (s a m b : ℤ) → ((x y z : ℤ) → count x z ≤ count x y + count
     (y +ℤ pos 1) z) → counted_earlier count s a b ≤ counted_earlier count s a m + counted_earlier
     count s (m +ℤ pos 1) b
 earlier_parts count s a m b parts =
@@ -183,10 +180,14 @@ round-none count a b h =
     let yes : int_lt b a ≡ true = grind (arith, ints) in
     ap (λ t. cond t 0 (count (a -ℤ pos 1) (b +ℤ pos 1))) yes
 
-abbrev GrowsWider : (ℤ → ℤ → ℕ) → Type 0
+-- a stretch counts no more than one round it, and no more than its two parts together
+abbrev pub GrowsWider : (ℤ → ℤ → ℕ) → Type 0
 GrowsWider count = (a b low high : ℤ) → low ≤ℤ a → b ≤ℤ high → count a b ≤ count low high
 
-round_within : (count : ℤ → ℤ → ℕ) → GrowsWider count → GrowsWider (counted_round count)
+abbrev pub HasParts : (ℤ → ℤ → ℕ) → Type 0
+HasParts count = (a m b : ℤ) → count a b ≤ count a m + count (m +ℤ pos 1) b
+
+pub round_within : (count : ℤ → ℤ → ℕ) → GrowsWider count → GrowsWider (counted_round count)
 round_within count grows a b low high la bh = elim (cases_sign (b -ℤ a)) [
   | inl forwards ↦
       let one = round-some count a b (omega (arith, ints)) in
@@ -200,7 +201,7 @@ round_within count grows a b low high la bh = elim (cases_sign (b -ℤ a)) [
       omega arith
 ]
 
-round_parts : (count : ℤ → ℤ → ℕ) (a m b : ℤ) → GrowsWider count
+pub round_parts : (count : ℤ → ℤ → ℕ) (a m b : ℤ) → GrowsWider count
     → ((x y z : ℤ) → count x z ≤ count x y + count (y +ℤ pos 1) z)
     → counted_round count a b ≤ counted_round count a m + counted_round count (m +ℤ pos 1) b
 round_parts count a m b grows parts = elim (cases_sign (b -ℤ a)) [
@@ -227,83 +228,6 @@ round_parts count a m b grows parts = elim (cases_sign (b -ℤ a)) [
     ]
   ]
 ]
-
--- a stretch has no more candidates than one round it, no more than its two parts together, and none
--- where it ends before it
--- begins
-pub candidates-within : (t : Tree Meaning) (a b low high : ℤ) → low ≤ℤ a → b ≤ℤ high
-    → candidates t a b ≤ candidates t low high
-candidates-within Empty a b low high la bh = omega arith
-candidates-within (Spanned bounds x y) a b low high la bh =
-    count_between-within (bounds_at bounds) a b low high la bh
-candidates-within (Ruled rule) a b low high la bh =
-    count_between-within (moments_in rule.candidate) a b low high la bh
-candidates-within (Joined op x y) a b low high la bh =
-    let one = candidates-within x a b low high la bh in
-    let other = candidates-within y a b low high la bh in
-    omega arith
-candidates-within (Not x) a b low high la bh = candidates-within x a b low high la bh
-candidates-within (During x seconds) a b low high la bh =
-    let s = position_of seconds in
-    let one = candidates-within x a b low high la bh in
-    let other =
-    candidates-within x (a -ℤ s) (b -ℤ s) (low -ℤ s) (high -ℤ s) (omega (arith, ints))
-    (omega (arith, ints)) in
-    omega arith
-candidates-within (Pairs x y) a b low high la bh =
-    let one = candidates-within x a b low high la bh in
-    let other = candidates-within y a b low high la bh in
-    omega arith
-candidates-within (Starts x) a b low high la bh =
-    round_within (candidates x) (candidates-within x) a b low high la bh
-candidates-within (Ends x) a b low high la bh =
-    round_within (candidates x) (candidates-within x) a b low high la bh
-candidates-within (Shift x seconds) a b low high la bh =
-    let s = position_of seconds in
-    candidates-within x (a -ℤ s) (b -ℤ s) (low -ℤ s) (high -ℤ s) (omega (arith, ints))
-    (omega (arith, ints))
-
-pub candidates-split : (t : Tree Meaning) (a m b : ℤ) → candidates t a b ≤ candidates t a
-    m + candidates t (m +ℤ pos 1) b
-candidates-split Empty a m b = omega arith
-candidates-split (Spanned bounds low high) a m b = count_between-parts (bounds_at bounds) a m b
-candidates-split (Ruled rule) a m b = count_between-parts (moments_in rule.candidate) a m b
-candidates-split (Joined op x y) a m b =
-    both_parts (candidates x) (candidates y) a m b (candidates-split x a m b) (candidates-split y a
-    m b)
-candidates-split (Not x) a m b = candidates-split x a m b
-candidates-split (During x seconds) a m b =
-    both_parts (candidates x) (counted_earlier (candidates x) (position_of seconds)) a m b
-    (candidates-split x a m b) (earlier_parts (candidates x) (position_of seconds) a m b
-    (candidates-split x))
-candidates-split (Pairs x y) a m b =
-    both_parts (candidates x) (candidates y) a m b (candidates-split x a m b) (candidates-split y a
-    m b)
-candidates-split (Starts x) a m b =
-    round_parts (candidates x) a m b (candidates-within x) (candidates-split x)
-candidates-split (Ends x) a m b =
-    round_parts (candidates x) a m b (candidates-within x) (candidates-split x)
-candidates-split (Shift x seconds) a m b =
-    earlier_parts (candidates x) (position_of seconds) a m b (candidates-split x)
-
-pub candidates-none : (t : Tree Meaning) (a b : ℤ) → b <ℤ a → candidates t a b ≡ 0
-candidates-none Empty a b h = refl
-candidates-none (Spanned bounds low high) a b h = count_between-none (bounds_at bounds) a b h
-candidates-none (Ruled rule) a b h = count_between-none (moments_in rule.candidate) a b h
-candidates-none (Joined op x y) a b h = let one = candidates-none x a b h in let other =
-    candidates-none y a b h in omega arith
-candidates-none (Not x) a b h = candidates-none x a b h
-candidates-none (During x seconds) a b h =
-    let one = candidates-none x a b h in
-    let other =
-    candidates-none x (a -ℤ position_of seconds) (b -ℤ position_of seconds) (omega (arith, ints)) in
-    omega arith
-candidates-none (Pairs x y) a b h = let one = candidates-none x a b h in let other =
-    candidates-none y a b h in omega arith
-candidates-none (Starts x) a b h = round-none (candidates x) a b h
-candidates-none (Ends x) a b h = round-none (candidates x) a b h
-candidates-none (Shift x seconds) a b h =
-    candidates-none x (a -ℤ position_of seconds) (b -ℤ position_of seconds) (omega (arith, ints))
 
 -- what passes a test so many positions earlier
 count_from-moved : (test : ℤ → Bool) (s p : ℤ) (n : ℕ) → count_from (λ q. test (q -ℤ s)) p
@@ -334,56 +258,28 @@ count_between-moved test s a b = elim (cases_sign (b -ℤ a)) [
       ∙ sym (count_between-is test (a -ℤ s) (b -ℤ s) n (omega (arith, ints)))
 ]
 
-both_covered : (f g : ℤ → Bool) (m n : ℕ) (a b : ℤ) → count_between f a b ≤ m
+pub both_covered : (f g : ℤ → Bool) (m n : ℕ) (a b : ℤ) → count_between f a b ≤ m
     → count_between g a b ≤ n → count_between (λ q. f q || g q) a b ≤ m + n
 both_covered f g m n a b h k =
     let either = count_between-either f g a b in
     omega arith
 
-earlier_covered : (test : ℤ → Bool) (count : ℤ → ℤ → ℕ) (s a b : ℤ) → count_between test (a -ℤ s)
+pub earlier_covered : (test : ℤ → Bool) (count : ℤ → ℤ → ℕ) (s a b : ℤ) → count_between test (a -ℤ s)
     (b -ℤ s) ≤ count (a -ℤ s) (b -ℤ s) → count_between (λ q. test (q -ℤ s)) a b ≤ counted_earlier
     count s a b
 earlier_covered test count s a b h =
     let e = count_between-moved test s a b in
     omega arith
 
-round_covered : (x : Tree Meaning) (a b : ℤ) → count_between (is_candidate x) a b ≤ candidates x a b
-    → count_between (is_candidate x) a b ≤ counted_round (candidates x) a b
-round_covered x a b h = elim (cases_sign (b -ℤ a)) [
+pub round_covered : (test : ℤ → Bool) (count : ℤ → ℤ → ℕ) (a b : ℤ) → GrowsWider count
+    → count_between test a b ≤ count a b → count_between test a b ≤ counted_round count a b
+round_covered test count a b grows h = elim (cases_sign (b -ℤ a)) [
   | inl forwards ↦
-      let whole = round-some (candidates x) a b (omega (arith, ints)) in
+      let whole = round-some count a b (omega (arith, ints)) in
       let wider =
-      candidates-within x a b (a -ℤ pos 1) (b +ℤ pos 1) (omega (arith, ints))
-      (omega (arith, ints)) in
+      grows a b (a -ℤ pos 1) (b +ℤ pos 1) (omega (arith, ints)) (omega (arith, ints)) in
       omega arith
   | inr backwards ↦
-      let none = count_between-none (is_candidate x) a b (omega (arith, ints)) in
+      let none = count_between-none test a b (omega (arith, ints)) in
       omega arith
 ]
-
--- the positions at which a candidate stands are no more than the candidates
-pub candidates-cover : (t : Tree Meaning) (a b : ℤ) → count_between (is_candidate t) a
-    b ≤ candidates t a b
-candidates-cover Empty a b =
-    let none = count_between-never a b in
-    omega arith
-candidates-cover (Spanned bounds low high) a b = omega arith
-candidates-cover (Ruled rule) a b = omega arith
-candidates-cover (Joined op x y) a b =
-    both_covered (is_candidate x) (is_candidate y) (candidates x a b) (candidates y a b) a b
-    (candidates-cover x a b) (candidates-cover y a b)
-candidates-cover (Not x) a b = candidates-cover x a b
-candidates-cover (During x seconds) a b =
-    let s = position_of seconds in
-    both_covered (is_candidate x) (λ q. is_candidate x (q -ℤ s)) (candidates x a b)
-    (counted_earlier (candidates x) s a b) a b
-    (candidates-cover x a b) (earlier_covered (is_candidate x) (candidates x) s a b
-    (candidates-cover x (a -ℤ s) (b -ℤ s)))
-candidates-cover (Pairs x y) a b =
-    both_covered (is_candidate x) (is_candidate y) (candidates x a b) (candidates y a b) a b
-    (candidates-cover x a b) (candidates-cover y a b)
-candidates-cover (Starts x) a b = round_covered x a b (candidates-cover x a b)
-candidates-cover (Ends x) a b = round_covered x a b (candidates-cover x a b)
-candidates-cover (Shift x seconds) a b =
-    let s = position_of seconds in
-    earlier_covered (is_candidate x) (candidates x) s a b (candidates-cover x (a -ℤ s) (b -ℤ s))

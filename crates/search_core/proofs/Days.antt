@@ -1,17 +1,19 @@
 -- The candidates of a stretch, day by day and leaf by leaf.
 use Rattle.std.proofs.Common.{◌≡◌, refl, ap, ◌∙◌, sym, inl, inr, arith, ℕ, zero, suc, ◌+◌, ◌*◌, ◌<◌, ◌≤◌, ℤ, pos, ◌+ℤ◌, ◌-ℤ◌, ◌≤ℤ◌, max, mul_assoc, suc-mul, add-mul, mul_comm}
 use Rattle.std.proofs.Math.Nat.{le-max_left, le-max_right}
-use Rattle.std.proofs.lemmas.Int.{by_lt_z, ints}
+use Rattle.std.proofs.lemmas.Int.{ints}
 use Rattle.std.specs.Int.{int_div_euclid}
 use Rattle.moment_core.proofs.FloorLemmas.{floor_arith}
 use Rattle.moment_core.specs.Line.{IsCalendarPosition, position_of}
 use Rattle.moment_core.specs.declared.line.TheConstants.{LOW, HIGH, REACH}
 use Rattle.expr_tree.specs.Sorts.{reach_of}
 use Rattle.stored_pair.specs.Meanings.{Meaning}
-use Rattle.expr_tree.specs.Tree.{Tree, Empty, Spanned, Ruled, Joined, Not, During, Pairs, Starts, Ends, Shift}
-use Rattle.search_core.specs.Candidates.{candidates, counted_round}
+use Rattle.expr_tree.specs.Tree.{Tree, Empty, Spanned, Ruled, Joined, Pairs, Unary}
+use Rattle.search_core.specs.Candidates.{candidates}
 use Rattle.search_core.specs.Laws.{AmpleIsAbove}
-use Rattle.search_core.proofs.Counting.{candidates-none, candidates-split, candidates-within, round-none, round-some}
+use Rattle.search_core.specs.Unary.{copies}
+use Rattle.search_core.proofs.Candidates.{candidates-none, candidates-split, candidates-within}
+use Rattle.search_core.proofs.Unary.{IsShort, unary-most}
 use Rattle.search_core.specs.Ample.{IsMost, candidates_on, copies_of, days_of_working_range, first_of_day}
 
 pub whole_days : HIGH +ℤ REACH +ℤ pos 1 ≡ LOW -ℤ REACH +ℤ pos (86_400 * days_of_working_range)
@@ -84,34 +86,14 @@ joined_below x y m a b h k =
     let both = add-mul (copies_of x) (copies_of y) (on_all_days m) in
     omega arith
 
-twice_below : (c d n k : ℕ) → c ≤ k * n → d ≤ k * n → c + d ≤ (2 * k) * n
-twice_below c d n k h i =
-    let both = add-mul k k n in
-    let twice : 2 * k ≡ k + k = omega arith in
-    let same : (2 * k) * n ≡ (k + k) * n = ap (λ z. z * n) twice in
-    omega arith
-
--- a stretch that is so short that what the tree looks at round it isn't too long
-abbrev pub IsShort : ℕ → ℤ → ℤ → Type 0
-IsShort reach a b = (b +ℤ pos (2 * reach)) ≤ℤ (a +ℤ pos longest)
-
-less_short : (m n : ℕ) (a b : ℤ) → m ≤ n → IsShort n a b → IsShort m a b
+less_short : (m n : ℕ) (a b : ℤ) → m ≤ n → IsShort longest n a b → IsShort longest m a b
 less_short m n a b h short = omega (arith, ints)
-
-round_below : (count : ℤ → ℤ → ℕ) (reach n : ℕ) (a b : ℤ) → IsShort (1 + reach) a b
-    → ((x y : ℤ) → IsShort reach x y → count x y ≤ n) → counted_round count a b ≤ n
-round_below count reach n a b short below = by_lt_z b a
-    (λ none. let nothing = round-none count a b none in omega arith)
-    (λ some.
-    let whole = round-some count a b some in
-    let most = below (a -ℤ pos 1) (b +ℤ pos 1) (omega (arith, ints)) in
-    omega arith)
 
 -- a tree has at most the candidates of one leaf on all days, as often as it has copies, where what
 -- it looks at isn't longer than
 -- they are
 pub most_candidates : (tree : Tree Meaning) (m : ℕ) → IsMost tree m → (a b : ℤ)
-    → IsShort (reach_of tree) a b → candidates tree a b ≤ copies_of tree * on_all_days m
+    → IsShort longest (reach_of tree) a b → candidates tree a b ≤ copies_of tree * on_all_days m
 most_candidates Empty m most a b short = let one =
     leaf_below Empty m (most Empty refl) a b (omega (arith, ints)) in omega arith
 most_candidates (Spanned bounds low high) m most a b short =
@@ -130,12 +112,6 @@ most_candidates (Joined op x y) m most a b short =
     (le-max_left r s) short))
     (most_candidates y m (λ leaf k. most leaf (inr k)) a b (less_short s (max r s) a b
     (le-max_right r s) short))
-most_candidates (Not x) m most a b short = most_candidates x m most a b short
-most_candidates (During x seconds) m most a b short =
-    let s = position_of seconds in
-    twice_below (candidates x a b) (candidates x (a -ℤ s) (b -ℤ s)) (on_all_days m) (copies_of x)
-    (most_candidates x m most a b (omega (arith, ints)))
-    (most_candidates x m most (a -ℤ s) (b -ℤ s) (omega (arith, ints)))
 most_candidates (Pairs x y) m most a b short =
     let r = reach_of x in
     let s = reach_of y in
@@ -144,15 +120,12 @@ most_candidates (Pairs x y) m most a b short =
     (le-max_left r s) short))
     (most_candidates y m (λ leaf k. most leaf (inr k)) a b (less_short s (max r s) a b
     (le-max_right r s) short))
-most_candidates (Starts x) m most a b short =
-    round_below (candidates x) (reach_of x) (copies_of x * on_all_days m) a b short
-    (most_candidates x m most)
-most_candidates (Ends x) m most a b short =
-    round_below (candidates x) (reach_of x) (copies_of x * on_all_days m) a b short
-    (most_candidates x m most)
-most_candidates (Shift x seconds) m most a b short =
-    let s = position_of seconds in
-    most_candidates x m most (a -ℤ s) (b -ℤ s) (omega (arith, ints))
+most_candidates (Unary op x) m most a b short =
+    let one =
+    unary-most op (candidates x) longest (reach_of x) (copies_of x * on_all_days m)
+    (most_candidates x m most) a b short in
+    let turned = mul_assoc (copies op) (copies_of x) (on_all_days m) in
+    omega arith
 
 -- what an ample budget is above
 pub above_all : (tree : Tree Meaning) (m budget : ℕ)
@@ -165,7 +138,7 @@ above_all tree m budget above =
 
 -- from the calendar range a tree looks no farther than the working range
 calendar_is_short : (reach : ℕ) (a b : ℤ) → pos reach ≤ℤ REACH → IsCalendarPosition a
-    → IsCalendarPosition b → IsShort reach a b
+    → IsCalendarPosition b → IsShort longest reach a b
 calendar_is_short reach a b near here there =
     let length = longest-working in
     omega (arith, ints, here.0, there.1)

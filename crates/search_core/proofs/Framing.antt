@@ -1,5 +1,5 @@
 -- Every tree repeats by its frame.
-use Rattle.std.proofs.Common.{◌≡◌, refl, sym, ◌∙◌, arith, ℤ, pos, negsuc, ◌+ℤ◌, ◌-ℤ◌, ◌≤ℤ◌, Bool, true, false, not, ◌&&◌, ◌||◌, Option, Some, None, lit≤}
+use Rattle.std.proofs.Common.{◌≡◌, refl, ◌∙◌, arith, ℤ, pos, ◌+ℤ◌, ◌-ℤ◌, Bool, true, false, Option, Some, None, lit≤}
 use Rattle.std.proofs.lemmas.Bool.{and_from, and_left, and_right}
 use Rattle.std.proofs.lemmas.Int.{ints}
 use Rattle.std.specs.Prelude.{option_map}
@@ -10,50 +10,42 @@ use Rattle.span_core.specs.declared.bounds.Bound.{Bound}
 use Rattle.span_core.specs.Laws.{HighBoundsEnd, LowBoundsBegin}
 use Rattle.frame_core.specs.Frames.{HasPeriod, IsPeriod, Repeats, RepeatsIfFramed, join_of}
 use Rattle.frame_core.specs.declared.frames.Frame.{Frame}
-use Rattle.frame_core.specs.Laws.{ConstantSetsRepeat, JoinedPeriods, SetsRepeatApart, SetsRepeatTogether}
+use Rattle.frame_core.specs.Laws.{ConstantSetsRepeat, JoinedPeriods, SetsRepeatTogether}
 use Rattle.expr_tree.specs.Laws.{IsBetweenMoments, LastsFromMoment}
 use Rattle.expr_tree.specs.Lists.{bottom, frame_from, top}
 use Rattle.expr_tree.specs.Members.{is_member}
 use Rattle.stored_pair.specs.Meanings.{Meaning}
 use Rattle.moment_core.proofs.Comparing.{le-int_le, lt-int_le}
-use Rattle.expr_tree.specs.Tree.{Tree, Empty, Spanned, Ruled, Joined, Not, During, Pairs, Starts, Ends, Shift}
+use Rattle.expr_tree.specs.Tree.{Tree, Empty, Spanned, Ruled, Joined, Pairs, Unary}
 use Rattle.search_core.specs.Lawful.{AreLawful}
 use Rattle.search_core.specs.TreeFrames.{frame_of_tree, join_framed, moved, opened, span_hi, span_lo}
-use Rattle.search_core.proofs.Repeating.{during_framed, edge_framed, pairs_framed, shift_framed}
-
--- a set that has one value from `hi` upwards and one from `lo` downwards
-repeats_unchanged : ConstantSetsRepeat → (set : ℤ → Bool) (hi lo : ℤ) (v w : Bool)
-    → ((p : ℤ) → hi ≤ℤ p → set p ≡ v) → ((p : ℤ) → p ≤ℤ lo → set p ≡ w)
-    → Repeats set (frame_from hi lo)
-repeats_unchanged constant set hi lo v w above below =
-    constant set (frame_from hi lo)
-    (λ p h. above p h ∙ sym (above hi (omega (arith, ints))))
-    (λ p h. below p h ∙ sym (below lo (omega (arith, ints))))
+use Rattle.search_core.specs.Unary.{hi_moves, lo_moves}
+use Rattle.search_core.proofs.Repeating.{pairs_framed, unary_framed}
 
 span_repeats_at : ConstantSetsRepeat → LowBoundsBegin → HighBoundsEnd
     → (low high : Bound) (first last : Option Pos) → first_from low ≡ first → last_to high ≡ last
     → Repeats (λ p. lies_between low high p) (frame_from (span_hi first last) (span_lo first last))
 span_repeats_at constant lows highs low high (Some first) (Some last) e f =
-    repeats_unchanged constant (λ p. lies_between low high p) (last.0 +ℤ pos 1) (first.0 -ℤ pos 1)
+    constant (λ p. lies_between low high p) (frame_from (last.0 +ℤ pos 1) (first.0 -ℤ pos 1))
     false false
     (λ p h. and_right (reaches low p) (ends_after high p) ((highs high).0 last f p
     ∙ lt-int_le p last.0 (omega (arith, ints, h))))
     (λ p h. and_left (reaches low p) (ends_after high p) ((lows low).0 first e p
     ∙ lt-int_le first.0 p (omega (arith, ints))))
 span_repeats_at constant lows highs low high (Some first) None e f =
-    repeats_unchanged constant (λ p. lies_between low high p) first.0 (first.0 -ℤ pos 1) true false
+    constant (λ p. lies_between low high p) (frame_from first.0 (first.0 -ℤ pos 1)) true false
     (λ p h. and_from (reaches low p) (ends_after high p) ((lows low).0 first e p
     ∙ le-int_le first.0 p h) ((highs high).1 f p))
     (λ p h. and_left (reaches low p) (ends_after high p) ((lows low).0 first e p
     ∙ lt-int_le first.0 p (omega (arith, ints))))
 span_repeats_at constant lows highs low high None (Some last) e f =
-    repeats_unchanged constant (λ p. lies_between low high p) (last.0 +ℤ pos 1) last.0 false true
+    constant (λ p. lies_between low high p) (frame_from (last.0 +ℤ pos 1) last.0) false true
     (λ p h. and_right (reaches low p) (ends_after high p) ((highs high).0 last f p
     ∙ lt-int_le p last.0 (omega (arith, ints, h))))
     (λ p h. and_from (reaches low p) (ends_after high p) ((lows low).1 e p) ((highs high).0 last f p
     ∙ le-int_le p last.0 h))
 span_repeats_at constant lows highs low high None None e f =
-    repeats_unchanged constant (λ p. lies_between low high p) bottom top true true
+    constant (λ p. lies_between low high p) (frame_from bottom top) true true
     (λ p h. and_from (reaches low p) (ends_after high p) ((lows low).1 e p) ((highs high).1 f p))
     (λ p h. and_from (reaches low p) (ends_after high p) ((lows low).1 e p) ((highs high).1 f p))
 
@@ -87,19 +79,12 @@ tree_period periods (Ruled rule) h = h.period
 tree_period periods (Joined op a b) h =
     join_framed-period periods (frame_of_tree a) (frame_of_tree b) (tree_period periods a h.0)
     (tree_period periods b h.1)
-tree_period periods (Not a) h = tree_period periods a h
-tree_period periods (During a seconds) h =
-    moved_period (pos 0) seconds (frame_of_tree a) (tree_period periods a h)
 tree_period periods (Pairs a b) h =
     opened_period (join_framed (frame_of_tree a) (frame_of_tree b))
     (join_framed-period periods (frame_of_tree a) (frame_of_tree b) (tree_period periods a h.0)
     (tree_period periods b h.1))
-tree_period periods (Starts a) h =
-    moved_period (negsuc 0) (pos 1) (frame_of_tree a) (tree_period periods a h)
-tree_period periods (Ends a) h =
-    moved_period (negsuc 0) (pos 1) (frame_of_tree a) (tree_period periods a h)
-tree_period periods (Shift a seconds) h =
-    moved_period seconds seconds (frame_of_tree a) (tree_period periods a h)
+tree_period periods (Unary op a) h =
+    moved_period (lo_moves op) (hi_moves op) (frame_of_tree a) (tree_period periods a h)
 
 joined_repeats : SetsRepeatTogether → (op : Bool → Bool → Bool) (f g : ℤ → Bool) (a b : Frame)
     → IsPeriod a.period → IsPeriod b.period → Repeats f a → Repeats g b → (o : Option Frame)
@@ -116,18 +101,13 @@ join_framed-repeats together op f g (Some a) None x y r s = tt
 join_framed-repeats together op f g None (Some b) x y r s = tt
 join_framed-repeats together op f g None None x y r s = tt
 
-apart_repeats : SetsRepeatApart → (f : ℤ → Bool) (o : Option Frame) → RepeatsIfFramed f o
-    → RepeatsIfFramed (λ p. not (f p)) o
-apart_repeats apart f (Some a) r = apart f not a r
-apart_repeats apart f None r = tt
-
-module _ (constant : ConstantSetsRepeat) (together : SetsRepeatTogether) (apart : SetsRepeatApart)
+module _ (constant : ConstantSetsRepeat) (together : SetsRepeatTogether)
     (periods : JoinedPeriods) (lows : LowBoundsBegin) (highs : HighBoundsEnd)
     (lasts : LastsFromMoment) (between : IsBetweenMoments) where
   pub tree_repeats : (t : Tree Meaning) → AreLawful t → RepeatsIfFramed (is_member t)
       (frame_of_tree t)
   tree_repeats Empty h =
-      repeats_unchanged constant (is_member Empty) bottom top false false (λ p h. refl)
+      constant (is_member Empty) (frame_from bottom top) false false (λ p h. refl)
       (λ p h. refl)
   tree_repeats (Spanned bounds low high) h =
       span_repeats_at constant lows highs bounds.0 bounds.1 (first_from bounds.0) (last_to bounds.1)
@@ -138,9 +118,6 @@ module _ (constant : ConstantSetsRepeat) (together : SetsRepeatTogether) (apart 
       (frame_of_tree b)
       (tree_period periods a h.0) (tree_period periods b h.1) (tree_repeats a h.0)
       (tree_repeats b h.1)
-  tree_repeats (Not a) h = apart_repeats apart (is_member a) (frame_of_tree a) (tree_repeats a h)
-  tree_repeats (During a seconds) h =
-      during_framed lasts between (is_member a) seconds (frame_of_tree a) (tree_repeats a h)
   tree_repeats (Pairs a b) h =
       let one = frame_of_tree a in
       let other = frame_of_tree b in
@@ -151,11 +128,5 @@ module _ (constant : ConstantSetsRepeat) (together : SetsRepeatTogether) (apart 
       (join_framed-repeats together (λ x y. y) (is_member a) (is_member b) one other
       (tree_period periods a h.0) (tree_period periods b h.1) (tree_repeats a h.0)
       (tree_repeats b h.1))
-  tree_repeats (Starts a) h =
-      edge_framed (λ before here after. (here && not before) || (after && not here)) (is_member a)
-      (frame_of_tree a) (tree_repeats a h)
-  tree_repeats (Ends a) h =
-      edge_framed (λ before here after. (here && not after) || (before && not here)) (is_member a)
-      (frame_of_tree a) (tree_repeats a h)
-  tree_repeats (Shift a seconds) h =
-      shift_framed (is_member a) seconds (frame_of_tree a) (tree_repeats a h)
+  tree_repeats (Unary op a) h =
+      unary_framed lasts between op (is_member a) (frame_of_tree a) (tree_repeats a h)

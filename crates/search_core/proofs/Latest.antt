@@ -7,7 +7,7 @@ use Rattle.moment_core.specs.Line.{position_of}
 use Rattle.moment_core.specs.declared.line.TheConstants.{LOW}
 use Rattle.search_core.specs.Laws.{DurationsLookBack, PairsLookBack}
 use Rattle.search_core.specs.LookingBack.{during_from, either, latest, pairs_from}
-use Rattle.search_core.proofs.Gaps.{gap-most, gap-none, gap-up}
+use Rattle.moment_core.proofs.Gaps.{gap-most, gap-none, gap-up}
 
 latest-zero : (test : ℤ → Bool) (z : ℤ) → latest test z 0 ≡ z
 unfolding latest
@@ -128,6 +128,13 @@ during-most set seconds q = latest-most set q (int_gap (pos 0) (position_of seco
 
 pub pairs-most : (f g : ℤ → Bool) (q : ℤ) → pairs_from f g q ≤ℤ q
 pairs-most f g q = latest-most (either f g) q (int_gap (position_of LOW) q)
+
+-- what is looked back at from a stretch is looked back at from a position of it
+pub meets_back : (from : ℤ → ℤ) → ((q : ℤ) → from q ≤ℤ q) → (a b r : ℤ) → a ≤ℤ b → from a ≤ℤ r
+    → r ≤ℤ b → (q : ℤ) × (a ≤ℤ q) × (q ≤ℤ b) × (from q ≤ℤ r) × (r ≤ℤ q)
+meets_back from most a b r order low high = by_lt_z r a
+    (λ before. (a, omega (arith, ints), order, low, omega (arith, ints)))
+    (λ there. (r, there, high, most r, omega (arith, ints)))
 
 gap-abs : (z : ℤ) → int_gap (pos 0) (position_of z) ≤ 2 * unsigned_abs z
 gap-abs (pos n) = omega (arith, ints)

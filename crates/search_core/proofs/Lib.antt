@@ -1,9 +1,10 @@
 pub mod Ampleness
+pub mod Candidates
 pub mod Counting
 pub mod Days
 pub mod Framing
-pub mod Gaps
 pub mod Latest
 pub mod Numbering
 pub mod Repeating
 pub mod Stretching
+pub mod Unary

@@ -1,6 +1,6 @@
 -- A stop of a test is one of a node, and due in searches from there both ways.
-use Rattle.std.proofs.Common.{◌≡◌, inl, inr, arith, subst, sym, ℕ, ◌+◌, ◌≤◌, ℤ, ◌-ℤ◌, Bool, Option}
-use Rattle.moment_core.specs.Line.{IsCalendarPosition, position_of}
+use Rattle.std.proofs.Common.{◌≡◌, inl, inr, arith, subst, sym, ℕ, ◌+◌, ◌≤◌, ℤ, Bool, Option}
+use Rattle.moment_core.specs.Line.{IsCalendarPosition}
 use Rattle.moment_core.specs.Sets.{IsUpTo}
 use Rattle.moment_core.specs.declared.line.Dir.{Dir}
 use Rattle.moment_core.specs.declared.line.Dir.TheVariants.{Fore, Back}
@@ -16,7 +16,7 @@ use Rattle.frame_core.specs.declared.frames.Frame.{Frame}
 use Rattle.stored_pair.specs.Meanings.{Meaning}
 use Rattle.expr_tree.specs.Members.{is_member}
 use Rattle.expr_tree.specs.Sorts.{nodes_of}
-use Rattle.expr_tree.specs.Tree.{Tree, Empty, Spanned, Ruled, Joined, Not, During, Pairs, Starts, Ends, Shift}
+use Rattle.expr_tree.specs.Tree.{Tree, Empty, Spanned, Ruled, Joined, Pairs, Unary}
 use Rattle.search_core.specs.Due.{IsDueAt}
 use Rattle.search_core.specs.Laws.{StopsOfTestsAreDue}
 use Rattle.search_core.specs.TreeFrames.{frame_of_tree}
@@ -39,11 +39,6 @@ numbered (Joined op x y) n budget s q due = elim due [
   | inl one ↦ from_next n s.node (numbered x (n + 1) budget s q one)
   | inr other ↦ from_later n (nodes_of x) s.node (numbered y (n + 1 + nodes_of x) budget s q other)
 ]
-numbered (Not x) n budget s q due = from_next n s.node (numbered x (n + 1) budget s q due)
-numbered (During x seconds) n budget s q due = elim due [
-  | inl own ↦ no_less s.node n own.0
-  | inr inner ↦ from_next n s.node (numbered x (n + 1) budget s inner.0 inner.3)
-]
 numbered (Pairs x y) n budget s q due = elim due [
   | inl own ↦ no_less s.node n own.0
   | inr inner ↦ elim inner.3 [
@@ -52,10 +47,10 @@ numbered (Pairs x y) n budget s q due = elim due [
         other)
   ]
 ]
-numbered (Starts x) n budget s q due = from_next n s.node (numbered x (n + 1) budget s due.0 due.3)
-numbered (Ends x) n budget s q due = from_next n s.node (numbered x (n + 1) budget s due.0 due.3)
-numbered (Shift x seconds) n budget s q due =
-    from_next n s.node (numbered x (n + 1) budget s (q -ℤ position_of seconds) due)
+numbered (Unary op x) n budget s q due = elim due [
+  | inl own ↦ no_less s.node n own.1
+  | inr inner ↦ from_next n s.node (numbered x (n + 1) budget s inner.0 inner.3)
+]
 
 range_ends_past : (dir : Dir) (p : ℤ) → IsCalendarPosition p → IsUpTo dir (end_of dir answers.Edge)
     p

@@ -1,17 +1,20 @@
 -- Sets that are moved, edges, durations and pairs repeat where what they are made of does.
-use Rattle.std.proofs.Common.{◌≡◌, refl, ap, sym, ◌∙◌, arith, ℕ, ◌*◌, ℤ, pos, negsuc, ◌+ℤ◌, ◌-ℤ◌, ◌≤ℤ◌, ◌<ℤ◌, Bool, true, false, ◌&&◌, Option, Some, None}
+use Rattle.std.proofs.Common.{◌≡◌, refl, ap, sym, ◌∙◌, arith, ℕ, ◌*◌, ℤ, pos, negsuc, ◌+ℤ◌, ◌-ℤ◌, ◌≤ℤ◌, ◌<ℤ◌, Bool, false, not, ◌&&◌, ◌||◌, Option, Some, None}
 use Rattle.std.proofs.lemmas.Int.{by_lt_z, clamps, ints}
 use Rattle.std.specs.Ordering.{int_eq}
 use Rattle.std.specs.Prelude.{option_map}
 use Rattle.moment_core.proofs.LineLaws.{halves}
-use Rattle.moment_core.specs.Line.{moment_of, position_of}
+use Rattle.moment_core.specs.Line.{is_moment, moment_of, position_of}
 use Rattle.moment_core.specs.declared.line.TheConstants.{LOW}
-use Rattle.span_core.specs.Bounds.{is_moment}
+use Rattle.moment_core.proofs.Truths.{same_truth}
+use Rattle.moment_core.specs.declared.joining.UnaryOp.{UnaryOp}
+use Rattle.moment_core.specs.declared.joining.UnaryOp.TheVariants.{Not, During, Starts, Ends, Shift}
 use Rattle.frame_core.specs.Frames.{Repeats, RepeatsIfFramed}
 use Rattle.frame_core.specs.declared.frames.Frame.{Frame}
 use Rattle.expr_tree.specs.Laws.{IsBetween, IsBetweenMoments, IsLasting, LastsFromMoment}
-use Rattle.expr_tree.specs.Members.{is_between, lasts_at}
+use Rattle.expr_tree.specs.Members.{is_between, lasts_at, unary_at}
 use Rattle.search_core.specs.TreeFrames.{moved, opened}
+use Rattle.search_core.specs.Unary.{hi_moves, lo_moves}
 
 -- a set that is so many seconds later
 shift_repeats : (f : ℤ → Bool) (s : ℤ) (frame : Frame) → Repeats f frame
@@ -105,21 +108,23 @@ member_down f frame r t h =
     omega (arith, ints) in
     ap f place ∙ r.downwards (position_of t) h
 
-pub shift_framed : (f : ℤ → Bool) (s : ℤ) (o : Option Frame) → RepeatsIfFramed f o
+not_framed : (f : ℤ → Bool) (o : Option Frame) → RepeatsIfFramed f o
+    → RepeatsIfFramed (λ p. not (f p)) (option_map (moved (pos 0) (pos 0)) o)
+not_framed f (Some frame) r = record {
+  upwards = λ p h. ap not (r.upwards p (omega (arith, ints)));
+  downwards = λ p h. ap not (r.downwards p (omega (arith, ints)));
+}
+not_framed f None r = tt
+
+shift_framed : (f : ℤ → Bool) (s : ℤ) (o : Option Frame) → RepeatsIfFramed f o
     → RepeatsIfFramed (λ p. f (p -ℤ position_of s)) (option_map (moved s s) o)
 shift_framed f s (Some frame) r = shift_repeats f s frame r
 shift_framed f s None r = tt
 
-pub edge_framed : (op : Bool → Bool → Bool → Bool) (f : ℤ → Bool) (o : Option Frame)
+edge_framed : (op : Bool → Bool → Bool → Bool) (f : ℤ → Bool) (o : Option Frame)
     → RepeatsIfFramed f o → RepeatsIfFramed (edge_of op f) (option_map (moved (negsuc 0) (pos 1)) o)
 edge_framed op f (Some frame) r = edge_repeats op f frame r
 edge_framed op f None r = tt
-
--- two truth values that imply each other are one
-same_truth : (x y : Bool) → (x ≡ true → y ≡ true) → (y ≡ true → x ≡ true) → x ≡ y
-same_truth true y h k = sym (h refl)
-same_truth false true h k = k refl
-same_truth false false h k = refl
 
 module _ (lasts : LastsFromMoment) (between : IsBetweenMoments) where
   during_repeats : (set : ℤ → Bool) (seconds : ℤ) (frame : Frame) → Repeats set frame
@@ -274,7 +279,18 @@ module _ (lasts : LastsFromMoment) (between : IsBetweenMoments) where
   pairs_framed opens closes (Some frame) r s = pairs_repeats opens closes frame r s
   pairs_framed opens closes None r s = tt
 
-  pub during_framed : (set : ℤ → Bool) (seconds : ℤ) (o : Option Frame) → RepeatsIfFramed set o
+  during_framed : (set : ℤ → Bool) (seconds : ℤ) (o : Option Frame) → RepeatsIfFramed set o
       → RepeatsIfFramed (lasts_at set seconds) (option_map (moved (pos 0) seconds) o)
   during_framed set seconds (Some frame) r = during_repeats set seconds frame r
   during_framed set seconds None r = tt
+
+  -- what is made of a set repeats by its frame
+  pub unary_framed : (op : UnaryOp) (f : ℤ → Bool) (o : Option Frame) → RepeatsIfFramed f o
+      → RepeatsIfFramed (unary_at op f) (option_map (moved (lo_moves op) (hi_moves op)) o)
+  unary_framed Not f o r = not_framed f o r
+  unary_framed (During seconds) f o r = during_framed f seconds o r
+  unary_framed Starts f o r =
+      edge_framed (λ before here after. (here && not before) || (after && not here)) f o r
+  unary_framed Ends f o r =
+      edge_framed (λ before here after. (here && not after) || (before && not here)) f o r
+  unary_framed (Shift seconds) f o r = shift_framed f seconds o r

@@ -1,7 +1,7 @@
 -- Which budgets are ample for searches of a tree, wherever in the calendar range they begin and
 -- end. A tree may look as far as `REACH` from there, so it has as many days to look at as the
 -- working range.
-use Rattle.std.specs.Prelude.{◌≡◌, ◌⊎◌, ℕ, ◌+◌, ◌*◌, ◌<◌, ◌≤◌, ℤ, pos, ◌+ℤ◌, ◌-ℤ◌, ◌*ℤ◌}
+use Rattle.std.specs.Prelude.{◌≡◌, ◌⊎◌, ℕ, ◌+◌, ◌*◌, ◌<◌, ◌≤◌, ℤ, pos, ◌+ℤ◌, ◌-ℤ◌, ◌*ℤ◌, false}
 use Rattle.moment_core.specs.Line.{position_of}
 use Rattle.moment_core.specs.declared.line.Dir.{Dir}
 use Rattle.moment_core.specs.declared.line.Dir.TheVariants.{Fore, Back}
@@ -9,23 +9,22 @@ use Rattle.span_core.specs.Answers.{IsFound, end_of}
 use Rattle.span_core.specs.declared.answers.Answer.{Answer}
 use Rattle.frame_core.specs.Frames.{window_if_framed}
 use Rattle.expr_tree.specs.Members.{is_member}
+use Rattle.expr_tree.specs.Sound.{looks_back}
 use Rattle.search_core.specs.TreeFrames.{frame_of_tree}
 use Rattle.stored_pair.specs.Meanings.{Meaning}
-use Rattle.expr_tree.specs.Tree.{Tree, Empty, Spanned, Ruled, Joined, Not, During, Pairs, Starts, Ends, Shift}
+use Rattle.expr_tree.specs.Tree.{Tree, Empty, Spanned, Ruled, Joined, Pairs, Unary}
 use Rattle.search_core.specs.Candidates.{candidates}
+use Rattle.search_core.specs.Unary.{copies}
 
--- how often the most of one leaf is counted: once for each leaf, and twice below durations
+-- how often the most of one leaf is counted: once for each leaf, and more where a set's candidates
+-- are counted more than once
 abbrev pub copies_of : Tree Meaning → ℕ
 copies_of Empty = 1
 copies_of (Spanned bounds low high) = 1
 copies_of (Ruled rule) = 1
 copies_of (Joined op a b) = copies_of a + copies_of b
-copies_of (Not a) = copies_of a
-copies_of (During a seconds) = 2 * copies_of a
 copies_of (Pairs a b) = copies_of a + copies_of b
-copies_of (Starts a) = copies_of a
-copies_of (Ends a) = copies_of a
-copies_of (Shift a seconds) = copies_of a
+copies_of (Unary op a) = copies op * copies_of a
 
 -- the tree is a leaf of the other
 abbrev pub IsLeafOf : Tree Meaning → Tree Meaning → Type 0
@@ -33,25 +32,17 @@ IsLeafOf leaf Empty = leaf ≡ Empty
 IsLeafOf leaf (Spanned bounds low high) = leaf ≡ Spanned bounds low high
 IsLeafOf leaf (Ruled rule) = leaf ≡ Ruled rule
 IsLeafOf leaf (Joined op a b) = IsLeafOf leaf a ⊎ IsLeafOf leaf b
-IsLeafOf leaf (Not a) = IsLeafOf leaf a
-IsLeafOf leaf (During a seconds) = IsLeafOf leaf a
 IsLeafOf leaf (Pairs a b) = IsLeafOf leaf a ⊎ IsLeafOf leaf b
-IsLeafOf leaf (Starts a) = IsLeafOf leaf a
-IsLeafOf leaf (Ends a) = IsLeafOf leaf a
-IsLeafOf leaf (Shift a seconds) = IsLeafOf leaf a
+IsLeafOf leaf (Unary op a) = IsLeafOf leaf a
 
--- the tree has no durations and no pairs, which look back
+-- nothing in the tree looks back, as durations and pairs do
 abbrev pub LooksAhead : Tree Meaning → Type 0
 LooksAhead Empty = Unit {0}
 LooksAhead (Spanned bounds low high) = Unit {0}
 LooksAhead (Ruled rule) = Unit {0}
 LooksAhead (Joined op a b) = LooksAhead a × LooksAhead b
-LooksAhead (Not a) = LooksAhead a
-LooksAhead (During a seconds) = ⊥
 LooksAhead (Pairs a b) = ⊥
-LooksAhead (Starts a) = LooksAhead a
-LooksAhead (Ends a) = LooksAhead a
-LooksAhead (Shift a seconds) = LooksAhead a
+LooksAhead (Unary op a) = (looks_back op ≡ false) × LooksAhead a
 
 -- the first position of a day, by its number from 1970-01-01
 abbrev pub first_of_day : ℤ → ℤ

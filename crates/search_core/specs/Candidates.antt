@@ -1,5 +1,5 @@
 -- The moments at which a leaf of a tree may change, and how many of them lie between two positions.
-use Rattle.std.specs.Prelude.{ℕ, zero, suc, ◌+◌, ℤ, pos, ◌+ℤ◌, ◌-ℤ◌, int_lt, Bool, false, ◌||◌, if◌then◌else◌}
+use Rattle.std.specs.Prelude.{ℕ, zero, suc, ◌+◌, ℤ, pos, ◌+ℤ◌, Bool, false, ◌||◌, if◌then◌else◌}
 use Rattle.std.specs.Int.{int_gap}
 use Rattle.std.specs.Ordering.{int_eq}
 use Rattle.moment_core.specs.Line.{position_of}
@@ -7,7 +7,8 @@ use Rattle.moment_core.specs.Sets.{moments_in}
 use Rattle.span_core.specs.declared.bounds.Bound.{Bound}
 use Rattle.span_core.specs.declared.bounds.Bound.TheVariants.{Closed, Open, Inf, Edge}
 use Rattle.stored_pair.specs.Meanings.{Meaning}
-use Rattle.expr_tree.specs.Tree.{Tree, Empty, Spanned, Ruled, Joined, Not, During, Pairs, Starts, Ends, Shift}
+use Rattle.expr_tree.specs.Tree.{Tree, Empty, Spanned, Ruled, Joined, Pairs, Unary}
+use Rattle.search_core.specs.Unary.{unary_candidate, unary_candidates}
 
 -- how many of the n positions from p on pass the test
 unfoldable pub count_from : (ℤ → Bool) → ℤ → ℕ → ℕ
@@ -34,31 +35,15 @@ is_candidate Empty p = false
 is_candidate (Spanned bounds low high) p = bounds_at bounds p
 is_candidate (Ruled rule) p = moments_in rule.candidate p
 is_candidate (Joined op a b) p = is_candidate a p || is_candidate b p
-is_candidate (Not a) p = is_candidate a p
-is_candidate (During a seconds) p = is_candidate a p || is_candidate a (p -ℤ position_of seconds)
 is_candidate (Pairs a b) p = is_candidate a p || is_candidate b p
-is_candidate (Starts a) p = is_candidate a p
-is_candidate (Ends a) p = is_candidate a p
-is_candidate (Shift a seconds) p = is_candidate a (p -ℤ position_of seconds)
-
--- what is counted so many positions earlier, and from one position before to one position after
-abbrev pub counted_earlier : (ℤ → ℤ → ℕ) → ℤ → ℤ → ℤ → ℕ
-counted_earlier count by a b = count (a -ℤ by) (b -ℤ by)
-
-abbrev pub counted_round : (ℤ → ℤ → ℕ) → ℤ → ℤ → ℕ
-counted_round count a b = if int_lt b a then 0 else count (a -ℤ pos 1) (b +ℤ pos 1)
+is_candidate (Unary op a) p = unary_candidate op (is_candidate a) p
 
 -- the candidates from position a to position b: those of rules, bounds of spans, the sum over two
--- children, those of a moved child, and for durations both
+-- children, and what is made of one child's
 abbrev pub candidates : Tree Meaning → ℤ → ℤ → ℕ
 candidates Empty a b = 0
 candidates (Spanned bounds low high) a b = count_between (bounds_at bounds) a b
 candidates (Ruled rule) a b = count_between (moments_in rule.candidate) a b
 candidates (Joined op x y) a b = candidates x a b + candidates y a b
-candidates (Not x) a b = candidates x a b
-candidates (During x seconds) a b =
-    candidates x a b + counted_earlier (candidates x) (position_of seconds) a b
 candidates (Pairs x y) a b = candidates x a b + candidates y a b
-candidates (Starts x) a b = counted_round (candidates x) a b
-candidates (Ends x) a b = counted_round (candidates x) a b
-candidates (Shift x seconds) a b = counted_earlier (candidates x) (position_of seconds) a b
+candidates (Unary op x) a b = unary_candidates op (candidates x) a b

@@ -1,6 +1,5 @@
 -- Which stops are due in a search of a tree, and in a test.
-use Rattle.std.specs.Prelude.{◌≡◌, ◌⊎◌, ℕ, ◌+◌, ◌≤◌, ℤ, pos, ◌+ℤ◌, ◌-ℤ◌, ◌≤ℤ◌, Bool, true, false}
-use Rattle.moment_core.specs.Line.{position_of}
+use Rattle.std.specs.Prelude.{◌≡◌, ◌⊎◌, ℕ, ◌+◌, ◌≤◌, ℤ, ◌≤ℤ◌, Bool, true, false}
 use Rattle.moment_core.specs.Sets.{ahead, IsUpTo}
 use Rattle.moment_core.specs.declared.line.Dir.{Dir}
 use Rattle.span_core.specs.Answers.{IsFound, StopsAt, end_of}
@@ -12,10 +11,12 @@ use Rattle.frame_core.specs.Frames.{window_if_framed}
 use Rattle.stored_pair.specs.Meanings.{Meaning}
 use Rattle.expr_tree.specs.Members.{is_member}
 use Rattle.expr_tree.specs.Sorts.{nodes_of}
-use Rattle.expr_tree.specs.Tree.{Tree, Empty, Spanned, Ruled, Joined, Not, During, Pairs, Starts, Ends, Shift}
+use Rattle.expr_tree.specs.Sound.{looks_back}
+use Rattle.expr_tree.specs.Tree.{Tree, Empty, Spanned, Ruled, Joined, Pairs, Unary}
 use Rattle.search_core.specs.Candidates.{candidates}
-use Rattle.search_core.specs.LookingBack.{during_from, either, pairs_from}
+use Rattle.search_core.specs.LookingBack.{either, pairs_from}
 use Rattle.search_core.specs.TreeFrames.{frame_of_tree}
+use Rattle.search_core.specs.Unary.{looks_from, looks_to}
 
 -- Looking back from q may stop, where it leads to the position `from`: not before there, where no
 -- event lies from the stop to q, and the candidates between them are at least the budget.
@@ -35,24 +36,18 @@ IsDueAt (Spanned bounds low high) n budget s q = ⊥
 IsDueAt (Ruled rule) n budget s q = ⊥
 IsDueAt (Joined op x y) n budget s q =
     IsDueAt x (n + 1) budget s q ⊎ IsDueAt y (n + 1 + nodes_of x) budget s q
-IsDueAt (Not x) n budget s q = IsDueAt x (n + 1) budget s q
-IsDueAt (During x seconds) n budget s q =
-    ((s.node ≡ n)
-    × StopsBack (is_member x) (candidates (During x seconds))
-    (during_from (is_member x) seconds q) q budget s.at.0)
-    ⊎ ((r : ℤ) × (during_from (is_member x) seconds q ≤ℤ r) × (r ≤ℤ q)
-    × IsDueAt x (n + 1) budget s r)
 IsDueAt (Pairs x y) n budget s q =
     ((s.node ≡ n)
     × StopsBack (either (is_member x) (is_member y)) (candidates (Pairs x y))
     (pairs_from (is_member x) (is_member y) q) q budget s.at.0)
     ⊎ ((r : ℤ) × (pairs_from (is_member x) (is_member y) q ≤ℤ r) × (r ≤ℤ q)
     × (IsDueAt x (n + 1) budget s r ⊎ IsDueAt y (n + 1 + nodes_of x) budget s r))
-IsDueAt (Starts x) n budget s q =
-    (r : ℤ) × ((q -ℤ pos 1) ≤ℤ r) × (r ≤ℤ (q +ℤ pos 1)) × IsDueAt x (n + 1) budget s r
-IsDueAt (Ends x) n budget s q =
-    (r : ℤ) × ((q -ℤ pos 1) ≤ℤ r) × (r ≤ℤ (q +ℤ pos 1)) × IsDueAt x (n + 1) budget s r
-IsDueAt (Shift x seconds) n budget s q = IsDueAt x (n + 1) budget s (q -ℤ position_of seconds)
+IsDueAt (Unary op x) n budget s q =
+    ((looks_back op ≡ true) × (s.node ≡ n)
+    × StopsBack (is_member x) (candidates (Unary op x)) (looks_from op (is_member x) q) q budget
+    s.at.0)
+    ⊎ ((r : ℤ) × (looks_from op (is_member x) q ≤ℤ r) × (r ≤ℤ looks_to op q)
+    × IsDueAt x (n + 1) budget s r)
 
 -- The root has the number 1. A test at p may stop where a stop is due there.
 abbrev pub IsDueInTest : Tree Meaning → ℤ → ℕ → Stop → Type 0

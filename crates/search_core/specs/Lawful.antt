@@ -4,7 +4,7 @@ use mathlib.Core.HLevel.{×_prop}
 use Rattle.frame_core.specs.Frames.{HasPeriod, RepeatsIfFramed, HasPeriod-prop, RepeatsIfFramed-prop}
 use Rattle.moment_core.specs.Sets.{moments_in}
 use Rattle.stored_pair.specs.Meanings.{Meaning}
-use Rattle.expr_tree.specs.Tree.{Tree, Empty, Spanned, Ruled, Joined, Not, During, Pairs, Starts, Ends, Shift}
+use Rattle.expr_tree.specs.Tree.{Tree, Empty, Spanned, Ruled, Joined, Pairs, Unary}
 
 pub record IsLawful (rule : Meaning) : Type 0 where
   pub period : HasPeriod rule.frame
@@ -16,12 +16,8 @@ AreLawful Empty = Unit {0}
 AreLawful (Spanned bounds low high) = Unit {0}
 AreLawful (Ruled rule) = IsLawful rule
 AreLawful (Joined op a b) = AreLawful a × AreLawful b
-AreLawful (Not a) = AreLawful a
-AreLawful (During a seconds) = AreLawful a
 AreLawful (Pairs a b) = AreLawful a × AreLawful b
-AreLawful (Starts a) = AreLawful a
-AreLawful (Ends a) = AreLawful a
-AreLawful (Shift a seconds) = AreLawful a
+AreLawful (Unary op a) = AreLawful a
 
 -- a tree is lawful in one way at most, so that a tree made ready can hold that it is
 IsLawful-prop : (rule : Meaning) → IsProp (IsLawful rule)
@@ -35,9 +31,5 @@ AreLawful-prop Empty = hlevel props
 AreLawful-prop (Spanned bounds low high) = hlevel props
 AreLawful-prop (Ruled rule) = IsLawful-prop rule
 AreLawful-prop (Joined op a b) = ×_prop (AreLawful-prop a) (AreLawful-prop b)
-AreLawful-prop (Not a) = AreLawful-prop a
-AreLawful-prop (During a seconds) = AreLawful-prop a
 AreLawful-prop (Pairs a b) = ×_prop (AreLawful-prop a) (AreLawful-prop b)
-AreLawful-prop (Starts a) = AreLawful-prop a
-AreLawful-prop (Ends a) = AreLawful-prop a
-AreLawful-prop (Shift a seconds) = AreLawful-prop a
+AreLawful-prop (Unary op a) = AreLawful-prop a

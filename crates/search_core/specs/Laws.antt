@@ -1,12 +1,13 @@
 -- What the frame, the candidates and the ample budgets of a tree owe.
-use Rattle.std.specs.Prelude.{◌≡◌, ◌↔◌, ◌+◌, ◌<◌, ◌≤◌, ℕ, ℤ, pos, ◌+ℤ◌, ◌-ℤ◌, ◌≤ℤ◌, ◌<ℤ◌, Bool, true, false}
+use Rattle.std.specs.Prelude.{◌≡◌, ◌↔◌, ◌+◌, ◌<◌, ◌≤◌, ℕ, ℤ, pos, ◌+ℤ◌, ◌-ℤ◌, ◌≤ℤ◌, ◌<ℤ◌, Bool, true, false, unsigned_abs}
 use Rattle.moment_core.specs.Line.{IsCalendarPosition, position_of}
+use Rattle.moment_core.specs.declared.joining.UnaryOp.{UnaryOp}
 use Rattle.moment_core.specs.declared.line.Dir.{Dir}
 use Rattle.moment_core.specs.declared.line.TheConstants.{LOW, REACH}
 use Rattle.span_core.specs.declared.answers.Stop.{Stop}
 use Rattle.frame_core.specs.Frames.{HasPeriod, RepeatsIfFramed}
 use Rattle.expr_tree.specs.Members.{is_member}
-use Rattle.expr_tree.specs.Sorts.{reach_of}
+use Rattle.expr_tree.specs.Sorts.{looks_past, reach_of}
 use Rattle.expr_tree.specs.Tree.{Tree}
 use Rattle.stored_pair.specs.Meanings.{Meaning}
 use Rattle.search_core.specs.Ample.{IsAboveSearch, IsAmple, LooksAhead}
@@ -16,6 +17,7 @@ use Rattle.search_core.specs.Lawful.{AreLawful}
 use Rattle.search_core.specs.LookingBack.{during_from, either, pairs_from}
 use Rattle.search_core.specs.Stretches.{IsDueIn}
 use Rattle.search_core.specs.TreeFrames.{frame_of_tree}
+use Rattle.search_core.specs.Unary.{hi_moves, lo_moves}
 
 -- a tree of lawful rules repeats by its frame
 abbrev pub FramesHavePeriods : Type 0
@@ -23,6 +25,12 @@ FramesHavePeriods = (t : Tree Meaning) → AreLawful t → HasPeriod (frame_of_t
 
 abbrev pub TreesRepeat : Type 0
 TreesRepeat = (t : Tree Meaning) → AreLawful t → RepeatsIfFramed (is_member t) (frame_of_tree t)
+
+-- what is made of a set moves neither end of the set's frame farther than it looks
+abbrev pub FramesMoveWithinReach : Type 0
+FramesMoveWithinReach =
+    (op : UnaryOp)
+    → (unsigned_abs (lo_moves op) ≤ looks_past op) × (unsigned_abs (hi_moves op) ≤ looks_past op)
 
 -- the positions of a stretch that pass a test: one that passes, those of two parts that follow each
 -- other, and those of a stretch round it

@@ -7,3 +7,4 @@ pub mod LookingBack
 pub mod Steps
 pub mod Stretches
 pub mod TreeFrames
+pub mod Unary

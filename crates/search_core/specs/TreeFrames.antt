@@ -1,5 +1,5 @@
 -- From where on, and by which period, a tree's positions repeat.
-use Rattle.std.specs.Prelude.{ℤ, pos, negsuc, ◌*◌, ◌+ℤ◌, ◌-ℤ◌, Option, Some, None, option_map}
+use Rattle.std.specs.Prelude.{ℤ, pos, ◌*◌, ◌+ℤ◌, ◌-ℤ◌, Option, Some, None, option_map}
 use Rattle.std.specs.Int.{int_max, int_min}
 use Rattle.moment_core.specs.Line.{position_of}
 use Rattle.moment_core.specs.declared.line.Pos.{Pos}
@@ -10,7 +10,8 @@ use Rattle.frame_core.specs.Frames.{join_of}
 use Rattle.frame_core.specs.declared.frames.Frame.{Frame}
 use Rattle.stored_pair.specs.Meanings.{Meaning}
 use Rattle.expr_tree.specs.Lists.{bottom, frame_from, top}
-use Rattle.expr_tree.specs.Tree.{Tree, Empty, Spanned, Ruled, Joined, Not, During, Pairs, Starts, Ends, Shift}
+use Rattle.expr_tree.specs.Tree.{Tree, Empty, Spanned, Ruled, Joined, Pairs, Unary}
+use Rattle.search_core.specs.Unary.{hi_moves, lo_moves}
 
 -- from where on upwards a span of these first and last positions stays as it is; and downwards
 abbrev pub span_hi : Option Pos → Option Pos → ℤ
@@ -55,9 +56,5 @@ frame_of_tree Empty = Some (frame_from bottom top)
 frame_of_tree (Spanned bounds low high) = Some (span_frame bounds)
 frame_of_tree (Ruled rule) = rule.frame
 frame_of_tree (Joined op a b) = join_framed (frame_of_tree a) (frame_of_tree b)
-frame_of_tree (Not a) = frame_of_tree a
-frame_of_tree (During a seconds) = option_map (moved (pos 0) seconds) (frame_of_tree a)
 frame_of_tree (Pairs a b) = option_map opened (join_framed (frame_of_tree a) (frame_of_tree b))
-frame_of_tree (Starts a) = option_map (moved (negsuc 0) (pos 1)) (frame_of_tree a)
-frame_of_tree (Ends a) = option_map (moved (negsuc 0) (pos 1)) (frame_of_tree a)
-frame_of_tree (Shift a seconds) = option_map (moved seconds seconds) (frame_of_tree a)
+frame_of_tree (Unary op a) = option_map (moved (lo_moves op) (hi_moves op)) (frame_of_tree a)

@@ -1,16 +1,18 @@
 ghost use Rattle.std.specs.Prelude.{◌≡◌, ◌*◌, pos, ◌+ℤ◌, ◌-ℤ◌};
 ghost use Rattle.moment_core.specs.declared.line.TheConstants.{HIGH, LOW, REACH};
 ghost use Rattle.search_core.specs.Ample.{days_of_working_range};
-ghost use Rattle.search_core.specs.Laws.{AheadNeverStopsTests, AmpleIsAbove, AmpleNeverStops, AmpleNeverStopsTests, DurationsLookBack, EnoughNeverStops, FramesHavePeriods, NoneBackwards, OnePasses, PartsAdd, PairsLookBack, PartsHaveAll, PlacesAreFewer, StopsOfTestsAreDue, StopsOfTestsAreNumbered, StretchesAreTheirPositions, TreesRepeat, WiderCountsMore, WiderHasMore};
+ghost use Rattle.search_core.specs.Laws.{AheadNeverStopsTests, AmpleIsAbove, AmpleNeverStops, AmpleNeverStopsTests, DurationsLookBack, EnoughNeverStops, FramesHavePeriods, FramesMoveWithinReach, NoneBackwards, OnePasses, PartsAdd, PairsLookBack, PartsHaveAll, PlacesAreFewer, StopsOfTestsAreDue, StopsOfTestsAreNumbered, StretchesAreTheirPositions, TreesRepeat, WiderCountsMore, WiderHasMore};
 
 use expr_tree::member_laws;
 use frame_core::{frame_laws, window_laws};
 use span_core::{answer_laws, bound_laws};
 
-/// A tree of lawful rules repeats by its frame.
+/// A tree of lawful rules repeats by its frame, which what is made of a set moves no farther than
+/// it looks.
 pub fn tree_frame_laws()
     ensures period { FramesHavePeriods }
     ensures repeats { TreesRepeat }
+    ensures moves { FramesMoveWithinReach }
 {
     bound_laws();
     frame_laws();

@@ -4,7 +4,7 @@ use Rattle.std.proofs.lemmas.Bool.{cases_Bool}
 use Rattle.search_core.specs.Lawful.{AreLawful}
 use Rattle.moment_core.proofs.Truths.{true-false}
 use Rattle.span_core.specs.declared.answers.Test.TheVariants as tests
-use Rattle.cert_audit.specs.Laws.{FirstUnsettledIsOne, SettledHaveNone, TreesSettleOrNot, WellFormedAreLawful}
+use Rattle.lowered_tree.specs.Laws.{FirstUnsettledIsOne, SettledHaveNone, TreesSettleOrNot, WellFormedAreLawful}
 use Rattle.expr_text.specs.Accepted.{IsRead}
 use Rattle.expr_text.specs.Fault.{Fault}
 use Rattle.expr_text.specs.Faults.{fault_of, sort_fault}

@@ -1,9 +1,9 @@
 -- From what is prepared to the outcome.
 use Rattle.std.proofs.Common.{◌≡◌, ◌≤◌, ℕ, ℤ, List, arith, subst, Option, Some, None, option_map, Result, Ok, Err, refl, sym, ap, ◌∙◌, IfSome, true, false, inl, is_ok}
 use Rattle.cert_audit.specs.Lowered.{CanBeReady}
-use Rattle.cert_audit.specs.Settling.{AreSettled, IsFaultOf, IsFirstUnsettled}
-use Rattle.cert_audit.specs.declared.lowering.PlanFault.{PlanFault}
-use Rattle.cert_audit.specs.declared.lowering.PlanFault.TheVariants as plans
+use Rattle.lowered_tree.specs.Settling.{AreSettled, IsFaultOf, IsFirstUnsettled}
+use Rattle.lowered_tree.specs.declared.faults.PlanFault.{PlanFault}
+use Rattle.lowered_tree.specs.declared.faults.PlanFault.TheVariants as plans
 use Rattle.ical_rules.specs.declared.outcome.Unsettled.{Unsettled}
 use Rattle.moment_core.specs.Line.{IsWorkingMoment}
 use Rattle.expr_text.specs.Accepted.{IsRead}

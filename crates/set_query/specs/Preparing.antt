@@ -1,8 +1,8 @@
 -- What is put together before anything is written.
 use Rattle.std.specs.Prelude.{◌≡◌, ℕ, List, Result, Ok, Err, option_map}
-use Rattle.cert_audit.specs.Settling.{AreSettled, IsFirstUnsettled}
-use Rattle.cert_audit.specs.declared.lowering.PlanFault.{PlanFault}
-use Rattle.cert_audit.specs.declared.lowering.PlanFault.TheVariants as plans
+use Rattle.lowered_tree.specs.Settling.{AreSettled, IsFirstUnsettled}
+use Rattle.lowered_tree.specs.declared.faults.PlanFault.{PlanFault}
+use Rattle.lowered_tree.specs.declared.faults.PlanFault.TheVariants as plans
 use Rattle.expr_text.specs.Sorted.{trees_of_sorted}
 use Rattle.expr_text.specs.declared.sorted.SortedProgram.{SortedProgram}
 use Rattle.expr_text.specs.declared.sorted.SortedSet.{SortedSet}

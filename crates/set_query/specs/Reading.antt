@@ -1,6 +1,6 @@
 -- What a text means to a query, phase by phase, or why it is refused.
 use Rattle.std.specs.Prelude.{◌≡◌, ℕ, Bool, true, List, Option, Some, None, Result, Ok, Err, is_none, if◌then◌else◌}
-use Rattle.cert_audit.specs.Settling.{AreSettled, IsFirstUnsettled}
+use Rattle.lowered_tree.specs.Settling.{AreSettled, IsFirstUnsettled}
 use Rattle.expr_text.specs.Accepted.{IsRead}
 use Rattle.expr_text.specs.Fault.{Fault}
 use Rattle.expr_tree.specs.Sorts.{sort_of_tree}

@@ -2,20 +2,11 @@
 use Rattle.std.proofs.Common.{◌≡◌, ◌↔◌, refl, sym, ◌∙◌, arith, ℤ, pos, ◌+ℤ◌, ◌≤ℤ◌, true, false, ◌&&◌, int_le, if◌then◌else◌}
 use Rattle.std.proofs.lemmas.Bool.{and_parts, and_from}
 use Rattle.std.proofs.lemmas.Int.{ints}
-use Rattle.moment_core.specs.Line.{moment_of, position_of}
-use Rattle.span_core.specs.Bounds.{ends_after, high_bound, is_moment, lies_between, low_bound, reaches}
+use Rattle.moment_core.specs.Line.{is_moment, moment_of, position_of}
+use Rattle.span_core.specs.Bounds.{ends_after, high_bound, lies_between, low_bound, reaches}
 use Rattle.span_core.specs.declared.bounds.Bound.TheVariants.{Closed, Open}
-use Rattle.moment_core.proofs.LineLaws.{halves}
-use Rattle.moment_core.proofs.Comparing.{int_le-below, int_le-true, le-int_le, int_eq-is, less_if_other}
-
-pub at_moment : (p : ℤ) → is_moment p ≡ true → position_of (moment_of p) ≡ p
-at_moment p e = int_eq-is (position_of (moment_of p)) p e
-
-pub at_open_second : (p : ℤ) → is_moment p ≡ false → position_of (moment_of p) +ℤ pos 1 ≡ p
-at_open_second p e =
-    let near = halves p in
-    let past : (position_of (moment_of p) +ℤ pos 1) ≤ℤ p = less_if_other (position_of (moment_of p)) p e near.0 in
-    omega (arith, ints)
+use Rattle.moment_core.proofs.LineLaws.{at_moment, at_open_second}
+use Rattle.moment_core.proofs.Comparing.{int_le-below, int_le-true, le-int_le}
 
 -- a run's lower bound reaches the positions from its first one on, and its upper bound ends after
 -- the last one

@@ -1,7 +1,6 @@
 -- Bounds of spans and runs.
 use Rattle.std.specs.Prelude.{◌≡◌, ℤ, pos, ◌+ℤ◌, ◌-ℤ◌, ◌≤ℤ◌, Bool, true, ◌&&◌, int_le, Option, Some, None, if◌then◌else◌}
-use Rattle.std.specs.Ordering.{int_eq}
-use Rattle.moment_core.specs.Line.{IsCalendarMoment, moment_of, position_of}
+use Rattle.moment_core.specs.Line.{IsCalendarMoment, is_moment, moment_of, position_of}
 use Rattle.moment_core.specs.declared.line.Pos.{Pos}
 use Rattle.span_core.specs.declared.bounds.Bound.{Bound}
 use Rattle.span_core.specs.declared.bounds.Bound.TheVariants.{Closed, Open, Inf, Edge}
@@ -64,10 +63,6 @@ pub record IsSpan (low high : Bound) : Type 0 where
 -- the positions are one stretch: each position between two of them is one of them
 abbrev pub IsOneStretch : (ℤ → Bool) → Type 0
 IsOneStretch set = (p q r : ℤ) → p ≤ℤ q → q ≤ℤ r → set p ≡ true → set r ≡ true → set q ≡ true
-
--- the position is a moment, and no open second
-abbrev pub is_moment : ℤ → Bool
-is_moment p = int_eq (position_of (moment_of p)) p
 
 -- the bounds of a run from its first to its last position: closed at a moment, open at an open
 -- second

@@ -1,7 +1,7 @@
 ghost use Rattle.std.specs.Prelude.{◌≡◌, ◌≤ℤ◌, IfSome};
-ghost use Rattle.moment_core.specs.Line.{position_of};
+ghost use Rattle.moment_core.specs.Line.{is_moment, position_of};
 ghost use Rattle.moment_core.specs.declared.line.TheConstants.{HIGH, LOW};
-ghost use Rattle.span_core.specs.Bounds.{IsGiven, first_from, high_bound, is_moment, last_to, low_bound, run_between};
+ghost use Rattle.span_core.specs.Bounds.{IsGiven, first_from, high_bound, last_to, low_bound, run_between};
 
 use moment_core::{Moment, Pos, floor, of};
 

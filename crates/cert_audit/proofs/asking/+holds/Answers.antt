@@ -1,16 +1,19 @@
 use Rattle.std.proofs.Common.{rules, IfErr, ◌+◌, ◌≡◌, refl, arith, sym, inl, inr, ◌∙◌, ◌≤ℤ◌, ◌<ℤ◌, ◌-ℤ◌, ◌||◌, pos}
 use Rattle.std.proofs.lemmas.Bool.{or_from}
-use Rattle.std.proofs.lemmas.Int.{ints}
+use Rattle.std.proofs.lemmas.Int.{ints, to_z-of_z}
+use mir.Syntax.{w64}
+use mir.Val.{SFits}
 use Rattle.moment_core.specs.Line.{position_of}
+use Rattle.moment_core.specs.declared.joining.UnaryOp.TheVariants.{During}
 use Rattle.moment_core.specs.declared.line.Dir.TheVariants.{Back}
 use Rattle.moment_core.specs.declared.line.TheConstants.{LOW}
 use Rattle.expr_tree.specs.Members.{is_member}
 use Rattle.expr_tree.specs.Sorts.{nodes_of, reach_of}
-use Rattle.expr_tree.specs.Tree.{During, Pairs}
+use Rattle.expr_tree.specs.Tree.{Pairs, Unary}
 use Rattle.search_core.specs.Candidates.{is_candidate}
 use Rattle.search_core.specs.Due.{IsDueAt}
 use Rattle.search_core.specs.LookingBack.{either}
-use Rattle.cert_audit.specs.Nodes.{meant_of_node}
+use Rattle.lowered_tree.specs.Nodes.{meant_of_node}
 use Rattle.cert_audit.proofs.Looking.{Due-numbered, during_in, during_inner, during_out, during_stop, err_map, look, look_end, look_on, pairs_closed, pairs_in, pairs_inner, pairs_out, pairs_stop}
 use Rattle.cert_audit.proofs.Rooms.{room_back, room_between, room_left, room_low, room_right, room_works}
 use Rattle.cert_audit.proofs.Turning.{Follows-op}
@@ -27,14 +30,14 @@ ask_second-returns-in-Err-clause-due g t c =
     let k = nodes_of (meant_of_node c.args.a.now) in
     Due-numbered (meant_of_node c.args.b.now) 1 (2 + k) (1 + k) c.args.budget c.in-Err.stop
     c.after.result c.args.p.0 (omega arith)
-    (omega (arith, c.after.ensures.node, c.count.ensures)) c.after.ensures.at c.in-Err.ensures.due
+    (omega (arith, c.after.ensures.node, c.node_count.ensures)) c.after.ensures.at c.in-Err.ensures.due
 
 pub holds_during-returns-then-le-clause-value : goal.holds_during-returns-then-le-clause-value
 holds_during-returns-then-le-clause-value g t c =
     let h : c.args.p.0 ≤ℤ c.earlier-before.result.0 = grind (arith, ints) in
     let e = c.earlier-before.ensures in
     sym (during_out c.member_laws.ensures.during c.due_laws.ensures.during
-    c.candidate_laws.ensures.places (is_member (meant_of_node c.args.a.now)) c.args.seconds.0
+    c.candidate_laws.ensures.places (is_member (meant_of_node c.args.a.now)) c.args.seconds
     c.args.p.0 (λ z low high. absurd (omega (arith, ints))))
 
 pub holds_during-back-init : goal.holds_during-back-init
@@ -61,7 +64,7 @@ holds_during-ask-requires g t c = λ κs alive.
         (
           c.requires.sound.0,
           (
-            room_back (reach_of a) c.args.seconds.0 c.args.p.0
+            room_back (reach_of a) c.args.seconds c.args.p.0
                 c.back.place.0 c.requires.room (omega (arith, ints)) (omega (arith, ints)),
             (c.requires.small, c.requires.budget),
           ),
@@ -78,9 +81,9 @@ holds_during-returns-in_err-ask-clause-due g t c =
     let due : IfErr c.from_residual.result (λ s. IsDueAt a 2 c.args.budget s c.back.place.0) =
     search rules in
     err_map c.from_residual.result (λ s. IsDueAt a 2 c.args.budget s c.back.place.0)
-    (λ s. IsDueAt (During a c.args.seconds.0) 1 c.args.budget s c.args.p.0)
+    (λ s. IsDueAt (Unary (During c.args.seconds) a) 1 c.args.budget s c.args.p.0)
     (λ s. during_inner c.member_laws.ensures.during c.due_laws.ensures.during
-    c.candidate_laws.ensures.places a c.args.seconds.0 c.args.p.0 c.back.place.0 c.back.passed
+    c.candidate_laws.ensures.places a c.args.seconds c.args.p.0 c.back.place.0 c.back.passed
     c.args.budget s c.back.invariant.looked (omega (arith, ints))) due
 
 pub holds_during-returns-then-branch-clause-value
@@ -92,8 +95,8 @@ holds_during-returns-then-branch-clause-value g t c =
     let end = c.one_after-end.ensures in
     let e = c.earlier-before.ensures in
     sym (during_in c.member_laws.ensures.during c.due_laws.ensures.during
-    c.candidate_laws.ensures.places (is_member (meant_of_node c.args.a.now)) c.args.seconds.0
-    c.args.p.0 c.back.place.0 c.requires.sound.1
+    c.candidate_laws.ensures.places (is_member (meant_of_node c.args.a.now)) c.args.seconds
+    c.args.p.0 c.back.place.0 (c.requires.sound.1 refl)
     (omega (arith, ints)) (omega (arith, ints)) (sym c.in_ok-ask.ensures.value ∙ c.if-branch.true))
 
 pub holds_during-returns-then-budget-passed-clause-due
@@ -103,7 +106,7 @@ holds_during-returns-then-budget-passed-clause-due g t c =
     let end = c.one_after-end.ensures in
     let e = c.earlier-before.ensures in
     during_stop c.member_laws.ensures.during c.due_laws.ensures.during
-    c.candidate_laws.ensures.places (meant_of_node c.args.a.now) c.args.seconds.0 c.args.p.0
+    c.candidate_laws.ensures.places (meant_of_node c.args.a.now) c.args.seconds c.args.p.0
     c.back.place c.back.passed c.args.budget c.back.invariant.looked
     (omega (arith, ints)) (sym c.in_ok-ask.ensures.value ∙ c.if-branch.false)
     c.if-budget-passed.true
@@ -116,7 +119,7 @@ holds_during-next_turn-requires-clause-here g t c =
     let above = c.back.invariant.above in
     let end = c.one_after-end.ensures in
     let e = c.earlier-before.ensures in
-    room_back (reach_of a) c.args.seconds.0 c.args.p.0 c.back.place.0 c.requires.room
+    room_back (reach_of a) c.args.seconds c.args.p.0 c.back.place.0 c.requires.room
     (omega (arith, ints)) (omega (arith, ints))
 
 pub holds_during-next_turn-requires-clause-there : goal.holds_during-next_turn-requires-clause-there
@@ -125,7 +128,7 @@ holds_during-next_turn-requires-clause-there g t c =
     let h : c.earlier-before.result.0 <ℤ c.args.p.0 = grind (arith, ints) in
     let e = c.earlier-before.ensures in
     let end = c.one_after-end.ensures in
-    room_back (reach_of a) c.args.seconds.0 c.args.p.0 c.one_after-end.result.0 c.requires.room
+    room_back (reach_of a) c.args.seconds c.args.p.0 c.one_after-end.result.0 c.requires.room
     (omega (arith, ints)) (omega (arith, ints))
 
 pub holds_during-returns-in_default-clause-value : goal.holds_during-returns-in_default-clause-value
@@ -134,7 +137,7 @@ holds_during-returns-in_default-clause-value g t c =
     let e = c.earlier-before.ensures in
     let end = c.one_after-end.ensures in
     sym (during_out c.member_laws.ensures.during c.due_laws.ensures.during
-    c.candidate_laws.ensures.places (is_member a) c.args.seconds.0 c.args.p.0
+    c.candidate_laws.ensures.places (is_member a) c.args.seconds c.args.p.0
     (λ z low high. look_end (is_member a) (is_candidate a) c.args.p.0 c.back.place.0
     c.one_after-end.result.0 c.back.passed c.back.invariant.looked
     (sym c.in_ok-ask.ensures.value ∙ c.if-branch.false) c.in_default.ensures.turn z
@@ -358,7 +361,7 @@ holds_during-with_candidate-passed-requires-clause-turn g t c =
     let there = c.in-Some.ensures.turn.1.place in
     let within = c.in-Some.ensures.turn.1.within in
     room_works (reach_of a) c.in-Some.turn.place.0
-    (room_back (reach_of a) c.args.seconds.0 c.args.p.0 c.in-Some.turn.place.0 c.requires.room
+    (room_back (reach_of a) c.args.seconds c.args.p.0 c.in-Some.turn.place.0 c.requires.room
     (omega (arith, ints)) (omega (arith, ints)))
 
 pub holds_pairs-with_candidate-passed-requires-clause-turn
@@ -377,3 +380,8 @@ holds_pairs-with_candidate-passed-requires-clause-turn g t c =
     room_works (reach_of a) c.in-Some.turn.place.0
     (room_between (reach_of a) (position_of LOW) c.args.p.0 c.in-Some.turn.place.0
     (room_low (reach_of a) room.0) room turn.1.within (omega (arith, ints)))
+
+pub holds_unary-returns-in-During-clause-value : goal.holds_unary-returns-in-During-clause-value
+holds_unary-returns-in-During-clause-value g t c =
+    let fits : SFits w64 c.in-During.seconds = search rules in
+    rw c.in-During.is (simp to_z-of_z at c.holds_during.ensures.value)

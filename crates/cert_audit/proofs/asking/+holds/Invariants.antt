@@ -5,7 +5,7 @@ use Rattle.expr_tree.specs.Members.{is_member}
 use Rattle.expr_tree.specs.Sorts.{nodes_of}
 use Rattle.search_core.specs.Candidates.{is_candidate}
 use Rattle.search_core.specs.LookingBack.{either}
-use Rattle.cert_audit.specs.Nodes.{meant_of_node}
+use Rattle.lowered_tree.specs.Nodes.{meant_of_node}
 use Rattle.cert_audit.proofs.Looking.{Looked}
 use Rattle.cert_audit.proofs.asking.+holds.Given as goal
 
@@ -17,6 +17,9 @@ decreases-ask g l = 4 * nodes_of (meant_of_node l.a.now) + 1
 
 abbrev pub decreases-ask_second : goal.decreases-ask_second
 decreases-ask_second g l = 4 * nodes_of (meant_of_node l.b.now) + 1
+
+abbrev pub decreases-holds_unary : goal.decreases-holds_unary
+decreases-holds_unary g l = 4 * nodes_of (meant_of_node l.a.now) + 3
 
 abbrev pub decreases-holds_start : goal.decreases-holds_start
 decreases-holds_start g l = 4 * nodes_of (meant_of_node l.a.now) + 2

@@ -17,6 +17,3 @@ decreases-put_pairs l = 4 * (nodes_of (tree_of l.a.now) + nodes_of (tree_of l.b.
 
 abbrev pub decreases-put_call : goal.decreases-put_call
 decreases-put_call l = 4 * nodes_of (tree_of l.a.now) + 1
-
-abbrev pub decreases-put_call_with : goal.decreases-put_call_with
-decreases-put_call_with l = 4 * nodes_of (tree_of l.a.now) + 1

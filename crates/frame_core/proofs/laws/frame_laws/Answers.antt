@@ -14,4 +14,4 @@ pub returns-clause-apart : goal.returns-clause-apart
 returns-clause-apart c f op frame r = Repeats-apart op f frame r
 
 pub returns-clause-constant : goal.returns-clause-constant
-returns-clause-constant c set frame above below = Repeats-constant set frame above below
+returns-clause-constant c = Repeats-constant

@@ -1,4 +1,4 @@
-use Rattle.search_core.proofs.Counting.{candidates-cover, candidates-none, candidates-split, candidates-within}
+use Rattle.search_core.proofs.Candidates.{candidates-cover, candidates-none, candidates-split, candidates-within}
 use Rattle.search_core.proofs.laws.candidate_laws.Goals as goal
 
 pub returns-clause-parts : goal.returns-clause-parts

@@ -1,5 +1,0 @@
-use Rattle.cert_audit.proofs.Lawfulness.{are_lawful}
-use Rattle.cert_audit.proofs.laws.lawful_laws.Goals as goal
-
-pub returns : goal.returns
-returns c = are_lawful c.frame_laws.ensures.constant c.field_laws.ensures c.ical_laws.ensures

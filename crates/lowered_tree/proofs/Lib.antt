@@ -1,0 +1,4 @@
+pub mod Lawfulness
+pub mod Listing
+pub mod Nearness
+pub mod Settling

@@ -1,0 +1,8 @@
+use Rattle.std.proofs.Common.{arith}
+use Rattle.lowered_tree.proofs.nodes.Node.+lower.Goals as goal
+
+pub lower_joined-lower-requires-2 : goal.lower_joined-lower-requires-2
+lower_joined-lower-requires-2 t c = (omega (arith, c.decreases), c.requires.b)
+
+pub lower_pairs-lower-requires-2 : goal.lower_pairs-lower-requires-2
+lower_pairs-lower-requires-2 t c = (omega (arith, c.decreases), c.requires.b)

@@ -1,0 +1,5 @@
+pub mod Laws
+pub mod Modest
+pub mod Nodes
+pub mod Settling
+pub mod Stamped
