@@ -1,5 +1,4 @@
 pub mod FrontLemmas
 pub mod OutcomeLaws
 pub mod OutcomeLemmas
-pub mod PreparingLemmas
-pub mod WalkLemmas
+pub mod RangeLemmas

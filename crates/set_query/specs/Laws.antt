@@ -1,7 +1,8 @@
 -- The laws of outcomes.
 use Rattle.std.specs.Prelude.{◌≡◌, ◌≢◌, ℕ, List}
 use Rattle.stored_pair.specs.Meanings.{Entries}
-use Rattle.set_query.specs.Report.{Outcome, IsOutcome}
+use Rattle.query_reply.specs.Report.{Outcome}
+use Rattle.set_query.specs.Outcomes.{IsOutcome}
 
 -- any words have an outcome over each text
 abbrev pub OutcomesExist : Type 0

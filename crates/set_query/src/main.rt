@@ -5,17 +5,12 @@ ghost use Rattle.std.specs.Prelude.{◌≡◌, ◌<◌};
 
 mod help;
 mod laws;
-mod preparing;
 mod query;
 mod reading;
-mod refusals;
-mod reporting;
-mod searching;
-mod walking;
-mod writing;
 
 use moment_core::Steps;
 use outside_core::{StdSink, StdSource};
+use query_reply::{put, refuse};
 use report_text::Refusal;
 use std::marker::Brand;
 use std::process::ExitCode;
@@ -46,10 +41,10 @@ fn answer<L: Ledger>(rt: &HostRuntime, blank: Blank) -> u8
     let words = match words_of(rt) {
         Ok(words) => words,
         Err(e) if e.kind() == io::ErrorKind::OutOfMemory => return 6,
-        Err(_) => return refusals::refuse(Refusal::Words(0), &mut sink),
+        Err(_) => return refuse(Refusal::Words(0), &mut sink),
     };
     if let Some(text) = help::text_of(&words) {
-        return writing::put(&mut sink, text.as_bytes(), 0);
+        return put(&mut sink, text.as_bytes(), 0);
     }
     let book = Book::empty(alloc);
     let mut steps = Steps::<L>::new(blank);

@@ -6,47 +6,31 @@ ghost use Rattle.stored_pair.specs.Names.{entries_of};
 ghost use Rattle.query_words.specs.Words.{Asks, IsRefused};
 ghost use Rattle.query_words.specs.declared.queries.Query.{Query};
 ghost use Rattle.query_words.specs.declared.queries.WordsFault.{WordsFault};
-ghost use Rattle.set_query.specs.Effects.{IsDone, IsReadOut, IsReported, Answers, BreaksOff, RanOut, ReadFailed, ReadsUpTo, WriteFailed};
+ghost use Rattle.report_text.specs.Refusals.{IsPrintable};
+ghost use Rattle.query_reply.specs.Effects.{IsDone, WriteFailed};
+ghost use Rattle.query_reply.specs.Report.{HasAmpleBudget};
+ghost use Rattle.set_query.specs.Effects.{Answers, BreaksOff, IsReadOut, ReadFailed, ReadsUpTo};
+ghost use Rattle.set_query.specs.Outcomes.{words_refusal};
 ghost use Rattle.set_query.specs.declared.reading.TheConstants.{ROOM};
-ghost use Rattle.set_query.specs.Report.{HasAmpleBudget, IsInRange, IsReply};
 
-use crate::preparing::{Unready, prepare};
 use crate::reading::{ReadFault, read_text};
-use crate::refusals::{refuse, words_refusal};
-use crate::reporting::write_report;
-use expr_text::reading_laws;
-use expr_tree::tree_laws;
 use moment_core::Steps;
 use outside_core::{Sink, Source};
-use query_core::budget_laws;
-use query_words::{Query, read_words, words_laws};
-use search_core::ample_laws;
+use query_reply::{refuse, reply, reply_laws};
+use query_words::{WordsFault, read_words, words_laws};
+use report_text::Refusal;
 use std::alloc::Global;
 use std::sync::ledger::Ledger;
 use stored_pair::Book;
-use walk_core::step_laws;
-use walk_report::report_laws;
 
-/// Answers the query over the text; the status is 6, and nothing is written, where no memory is
-/// left.
-fn reply<K: Sink, L: Ledger>(
-    alloc: Global,
-    query: Query,
-    text: &[u8],
-    book: &Book,
-    sink: &mut K,
-    steps: &mut Steps<L>,
-) -> u8
-    requires { IsInRange query }
-    ensures outcome { IsReported K.Sink sink.old sink.new
-        (IsReply (entries_of book.now) query text.now) result
-        ⊎ RanOut sink.old sink.new result }
-    ensures steps { steps.old ≤ steps.new }
+/// The refusal of words with this fault.
+fn words_refusal(fault: WordsFault) -> Refusal
+    ensures value { result ≡ words_refusal fault }
+    ensures printable { IsPrintable result }
 {
-    match prepare(alloc, query, text, book) {
-        Ok(mut report) => write_report(&mut report, sink, steps),
-        Err(Unready::Refused(refusal)) => refuse(refusal, sink),
-        Err(Unready::Memory) => 6,
+    match fault {
+        WordsFault::Unbuilt => Refusal::Unbuilt,
+        WordsFault::Bad(n) => Refusal::Words(n),
     }
 }
 
@@ -147,12 +131,7 @@ pub fn run<S: Source, K: Sink, L: Ledger>(
     ensures steps { steps.old ≤ steps.new }
 {
     words_laws();
-    budget_laws();
-    ample_laws();
-    reading_laws();
-    tree_laws();
-    step_laws();
-    report_laws();
+    reply_laws();
     match read_words(words) {
         Ok(query) => match read_text(alloc, source) {
             Ok(text) => reply(alloc, query, &text, book, sink, steps),

@@ -4,8 +4,8 @@ use Rattle.std.specs.String.{string_bytes}
 use Rattle.stored_pair.specs.Names.{entries_of}
 use Rattle.set_query.specs.Effects.{ReadsFront}
 use Rattle.set_query.specs.declared.reading.TheConstants.{ROOM}
-use Rattle.set_query.proofs.OutcomeLemmas.{Budgets, Ends, Reads, refused-ends, replied-ends, ends_ample, ends_complete, ends_done, ends_ended, ends_memory, ends_read, ends_sink_fault, ends_statuses}
-use Rattle.set_query.proofs.PreparingLemmas.{asks_in_range}
+use Rattle.set_query.proofs.OutcomeLemmas.{Ends, refused-ends, replied-ends, ends_ample, ends_complete, ends_done, ends_ended, ends_memory, ends_read, ends_sink_fault, ends_statuses}
+use Rattle.set_query.proofs.RangeLemmas.{asks_in_range}
 use Rattle.set_query.proofs.query.run.Given as given
 use Rattle.set_query.proofs.query.run.Goals as goal
 use Rattle.set_query.proofs.query.run.Goals.{After-drop-text, After-refuse}
@@ -13,27 +13,8 @@ use Rattle.set_query.proofs.query.run.Goals.{After-drop-text, After-refuse}
 front : (g : given.Over) (c : After-drop-text g) → ReadsFront ROOM g.S.Source c.args.source.now c.read_text.new.source c.deref.result.now
 front g c = rw c.deref.ensures.value c.in-Ok-read_text.ensures.front
 
-reads : (g : given.Over) (c : After-drop-text g) → Reads
-reads g c = record { unique = c.reading_laws.ensures.unique; long = c.reading_laws.ensures.long }
-
-budgets : (g : given.Over) (c : After-drop-text g) → Budgets
-budgets g c = record {
-  ahead = c.ample_laws.ensures.ahead;
-  tests = c.ample_laws.ensures.tests;
-  above = c.budget_laws.ensures.enough;
-  finds = c.budget_laws.ensures.ample;
-  walks = record {
-    begin = c.step_laws.ensures.begin;
-    exist = c.report_laws.ensures.exist;
-    unique = c.report_laws.ensures.unique;
-    ample = c.report_laws.ensures.ample;
-    enough = c.report_laws.ensures.enough;
-  };
-  reach = c.tree_laws.ensures.reach;
-}
-
 replied : (g : given.Over) (c : After-drop-text g) → Ends g.K.Sink c.args.sink.now c.reply.new.sink (entries_of c.args.book.now) (map string_bytes c.args.words.now) (g.S.Source.left c.args.source.now) c.reply.result
-replied g c = replied-ends _ _ _ _ _ _ _ (reads g c) (g.S.Source.left c.read_text.new.source) c.in-Ok.query c.deref.result.now c.in-Ok.ensures (front g c) c.reply.ensures.outcome
+replied g c = replied-ends _ _ _ _ _ _ _ c.reply_laws.ensures.fronts c.reply_laws.ensures.done (g.S.Source.left c.read_text.new.source) c.in-Ok.query c.deref.result.now c.in-Ok.ensures (front g c) c.reply.ensures.outcome
 
 refused : (g : given.Over) (c : After-refuse g) → Ends g.K.Sink c.args.sink.now c.refuse.new.sink (entries_of c.args.book.now) (map string_bytes c.args.words.now) (g.S.Source.left c.args.source.now) c.refuse.result
 refused g c = refused-ends _ _ _ _ _ _ _ c.in-Err.fault c.in-Err.ensures (rw c.words_refusal.ensures.value at c.refuse.ensures)
@@ -52,7 +33,7 @@ returns-in-Ok-read_text-clause-done g c = ends_done _ _ _ _ _ _ _ (replied g c)
 
 pub returns-in-Ok-read_text-clause-ample : goal.returns-in-Ok-read_text-clause-ample
 returns-in-Ok-read_text-clause-ample g c = λ query asks.
-    ends_ample (reads g c) c.words_laws.ensures.unique (budgets g c) _ _ _ _ _ _ _ query asks (replied g c)
+    ends_ample c.words_laws.ensures.unique c.reply_laws.ensures.ample _ _ _ _ _ _ _ query asks (replied g c)
 
 pub returns-in-Ok-read_text-clause-unread : goal.returns-in-Ok-read_text-clause-unread
 returns-in-Ok-read_text-clause-unread g c = λ fault refused.
@@ -60,7 +41,7 @@ returns-in-Ok-read_text-clause-unread g c = λ fault refused.
     absurd cc
 
 pub returns-in-Ok-read_text-clause-ended : goal.returns-in-Ok-read_text-clause-ended
-returns-in-Ok-read_text-clause-ended g c = ends_ended _ _ _ _ _ _ _ (reads g c) _ _ (front g c) (replied g c)
+returns-in-Ok-read_text-clause-ended g c = ends_ended _ _ _ _ _ _ _ c.reply_laws.ensures.short _ _ (front g c) (replied g c)
 
 pub returns-in-Ok-read_text-clause-source_fault : goal.returns-in-Ok-read_text-clause-source_fault
 returns-in-Ok-read_text-clause-source_fault g c = λ four. absurd (ends_read _ _ _ _ _ _ _ (replied g c) four)

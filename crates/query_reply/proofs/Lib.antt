@@ -1,0 +1,4 @@
+pub mod PreparingLemmas
+pub mod ReplyLaws
+pub mod ReplyLemmas
+pub mod WalkLemmas
