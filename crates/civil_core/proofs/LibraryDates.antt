@@ -35,13 +35,16 @@ days_in_year-is y = rw (is_leap_year-is y)
 pub days_in_month-is : (y : ℤ) (m : ℕ) → days_in_month y m ≡ month_len (is_leap y) m
 days_in_month-is y m = rw (is_leap_year-is y)
 
-days_of_years-is : (n : ℕ) → first_day (pos n -ℤ pos 10_000) ≡ pos (library.days_of_years n) -ℤ pos 4_371_953
+days_of_years-is : (n : ℕ) → first_day (pos n -ℤ pos 10_000) ≡ pos (library.days_of_years n) -ℤ pos
+    4_371_953
 unfolding library.days_of_years calendar.days_of_years first_day
 days_of_years-is zero = refl
 days_of_years-is (suc n) =
-    let next : pos (suc n) -ℤ pos 10_000 ≡ (pos n -ℤ pos 10_000) +ℤ pos 1 = omega (arith, signed_arith) in
+    let next : pos (suc n) -ℤ pos 10_000 ≡ (pos n -ℤ pos 10_000) +ℤ pos 1 =
+    omega (arith, signed_arith) in
     let long = days_in_year-is (pos n -ℤ pos 10_000) in
-    rw (next, first_day-next (pos n -ℤ pos 10_000)) (omega (arith, signed_arith, days_of_years-is n))
+    rw (next, first_day-next (pos n -ℤ pos 10_000))
+    (omega (arith, signed_arith, days_of_years-is n))
 
 pub days_of_months-is : (y : ℤ) (n : ℕ) → library.days_of_months y n ≡ days_of_months (is_leap y) n
 unfolding library.days_of_months days_of_months
@@ -53,17 +56,26 @@ pub epoch_day-is : (d : Date) → epoch_day d ≡ day_number d.year d.month d.da
 unfolding day_count day_number
 epoch_day-is d =
     let n = unsigned_abs (d.year +ℤ pos 10_000) in
-    let place : pos n -ℤ pos 10_000 ≡ d.year = omega (arith, signed_arith, d.year_in, one_part (d.year +ℤ pos 10_000)) in
+    let place : pos n -ℤ pos 10_000 ≡ d.year =
+    omega (arith, signed_arith, d.year_in, one_part (d.year +ℤ pos 10_000)) in
     let year = rw place at (days_of_years-is n) in
-    omega (arith, signed_arith, days_from_civil-day_count d.year d.month d.day, days_of_months-is d.year (d.month - 1))
+    omega (
+      arith,
+      signed_arith,
+      days_from_civil-day_count d.year d.month d.day,
+      days_of_months-is
+          d.year (d.month - 1),
+    )
 
 pub weekday_number-is : (day : ℤ) → weekday_of day ≡ weekday_number day + 1
 unfolding weekday_number weekday_of
 weekday_number-is day = refl
 
 -- and its date is the date of the day
-pub date-is : (d : Date) → (year_of (epoch_day d) ≡ d.year) × (month_of (epoch_day d) ≡ d.month) × (day_of_month (epoch_day d) ≡ d.day)
-date-is d = rw (epoch_day-is d) (date-of_day_number d.year d.month d.day d.month_in (rw (days_in_month-is d.year d.month) at d.day_in))
+pub date-is : (d : Date) → (year_of (epoch_day d) ≡ d.year) × (month_of (epoch_day d) ≡ d.month)
+    × (day_of_month (epoch_day d) ≡ d.day)
+date-is d = rw (epoch_day-is d) (date-of_day_number d.year d.month d.day d.month_in
+    (rw (days_in_month-is d.year d.month) at d.day_in))
 
 -- what the library reads off the date of a day
 pub parts-is : (d : Date) (day : ℤ) → epoch_day d ≡ day
@@ -76,19 +88,32 @@ parts-is d day e =
     let months = days_of_months-is d.year (d.month - 1) in
     let into = rw (parts.0, parts.1, parts.2) at (month_of-is (epoch_day d)).2 in
     let place : ordinal d ≡ days_into_year (epoch_day d) + 1 = omega (arith, into, months) in
-    rw (← e) (sym parts.0, sym parts.1, sym parts.2, rw (parts.0, parts.1) (days_in_month-is d.year d.month), rw parts.0 (days_in_year-is d.year), place, sym (weekday_number-is (epoch_day d)))
+    rw (← e) (
+      sym parts.0,
+      sym parts.1,
+      sym parts.2,
+      rw (parts.0, parts.1)
+          (days_in_month-is d.year d.month),
+      rw parts.0 (days_in_year-is d.year),
+      place,
+      sym
+          (weekday_number-is (epoch_day d)),
+    )
 
 -- a date of the library is one of the calendar
-pub date-in : (d : Date) (y : ℤ) (m k : ℕ) → d.year ≡ y → d.month ≡ m → d.day ≡ k → IsInRange 1 12 m × IsInRange 1 (month_len (is_leap y) m) k
+pub date-in : (d : Date) (y : ℤ) (m k : ℕ) → d.year ≡ y → d.month ≡ m → d.day ≡ k → IsInRange 1 12 m
+    × IsInRange 1 (month_len (is_leap y) m) k
 date-in d y m k year month day =
     let in_month = rw (days_in_month-is d.year d.month, year, month, day) at d.day_in in
     (rw month at d.month_in, in_month)
 
-pub date_number-is : (d : Date) (y : ℤ) (m k : ℕ) → d.year ≡ y → d.month ≡ m → d.day ≡ k → day_number d.year d.month d.day ≡ day_number y m k
+pub date_number-is : (d : Date) (y : ℤ) (m k : ℕ) → d.year ≡ y → d.month ≡ m → d.day ≡ k
+    → day_number d.year d.month d.day ≡ day_number y m k
 date_number-is d y m k year month day = rw (year, month, day)
 
 -- and the other way
-pub IsDate-from : (y : ℤ) (m d : ℕ) → IsYear y → IsInRange 1 12 m → IsInRange 1 (month_len (is_leap y) m) d → IsDate y (pos m) (pos d)
+pub IsDate-from : (y : ℤ) (m d : ℕ) → IsYear y → IsInRange 1 12 m
+    → IsInRange 1 (month_len (is_leap y) m) d → IsDate y (pos m) (pos d)
 IsDate-from y m d year in_year in_month =
     let same = days_in_month-is y m in
     (year, omega (arith, signed_arith), omega (arith, signed_arith))

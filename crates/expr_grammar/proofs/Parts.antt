@@ -2,7 +2,8 @@
 use Rattle.std.proofs.Common.{◌≡◌, Option, Some, None, refl, ap, subst}
 use Rattle.moment_core.specs.Texts.{◌>>=◌}
 
-pub bind_some : {A B : Type 0} (o : Option A) (f : A → Option B) (y : B) → (o >>= f) ≡ Some y → (x : A) × (o ≡ Some x) × (f x ≡ Some y)
+pub bind_some : {A B : Type 0} (o : Option A) (f : A → Option B) (y : B) → (o >>= f) ≡ Some y
+    → (x : A) × (o ≡ Some x) × (f x ≡ Some y)
 bind_some (Some x) f y e = (x, refl, e)
 bind_some None f y e = absurd cc
 
@@ -21,5 +22,7 @@ read_is {A} {B} a c b d e =
     (ap (λ (p : A × B). p.0) h, ap (λ (p : A × B). p.1) h)
 
 -- what holds of what was read, by what it is
-pub along : {A B : Type 0} (P : A → B → Type 0) (a c : A) (b d : B) → found a b ≡ Some (c, d) → P a b → P c d
-along P a c b d e h = let q = read_is a c b d e in subst (λ (y : _). P c y) q.1 (subst (λ (x : _). P x b) q.0 h)
+pub along : {A B : Type 0} (P : A → B → Type 0) (a c : A) (b d : B) → found a b ≡ Some (c, d)
+    → P a b → P c d
+along P a c b d e h = let q = read_is a c b d e in subst (λ (y : _). P c y) q.1
+    (subst (λ (x : _). P x b) q.0 h)

@@ -77,28 +77,56 @@ field_names (Values key (n ∷ ns)) = omega (arith, key_unspanned key, numbers_u
 
 fields_names : (fields : List FieldForm) → all_names (fields_tokens fields) ≡ 0
 fields_names [] = refl
-fields_names (f ∷ fields) = omega (arith, names_append (field_tokens f) (fields_tokens fields), field_names f, fields_names fields)
+fields_names (f ∷ fields) = omega (
+  arith,
+  names_append (field_tokens f) (fields_tokens fields),
+  field_names f,
+  fields_names fields,
+)
 
 leaf_names : Counts Leaf
 leaf_names t ts empty = refl
 leaf_names t ts (listed m ms rest spelled) = omega (arith, more_names ms rest spelled)
-leaf_names t ts (rule freq fields are) = omega (arith, freq_unspanned freq, names_append (fields_tokens fields) (tokens.Close ∷ []), fields_names fields)
+leaf_names t ts (rule freq fields are) =
+    omega (
+      arith,
+      freq_unspanned freq,
+      names_append (fields_tokens fields) (tokens.Close ∷ []),
+      fields_names fields,
+    )
 leaf_names t ts (rrule text start) = refl
-leaf_names t ts (span a b inner spelled) = omega (arith, names_append inner (tokens.Close ∷ []), bounds_names a b inner spelled)
+leaf_names t ts (span a b inner spelled) =
+    omega (arith, names_append inner (tokens.Close ∷ []), bounds_names a b inner spelled)
 
-goes_names : (Operand : Form → List Token → Type 0) (op : Op) → Counts Operand → (left t : Form) (ts : List Token) → Goes Operand op left t ts → spans_in left + all_names ts ≡ spans_in t
+goes_names : (Operand : Form → List Token → Type 0) (op : Op) → Counts Operand
+    → (left t : Form) (ts : List Token) → Goes Operand op left t ts → spans_in left + all_names ts
+    ≡ spans_in t
 goes_names Operand op counts left t ts (ends _) = omega arith
 goes_names Operand op counts left t ts (goes _ b _ xs ys o others) =
-    omega (arith, goes_names Operand op counts (Binary (Infix op) left b) t ys others, counts b xs o, names_append xs ys)
+    omega (
+      arith,
+      goes_names Operand op counts (Binary (Infix op) left b) t ys others,
+      counts b xs
+          o,
+      names_append xs ys,
+    )
 
-chain_names : (Operand : Form → List Token → Type 0) (op : Op) → Counts Operand → Counts (Chain Operand op)
+chain_names : (Operand : Form → List Token → Type 0) (op : Op) → Counts Operand
+    → Counts (Chain Operand op)
 chain_names Operand op counts t ts j =
-    ap all_names j.whole ∙ omega (arith, names_append j.front j.others, counts j.first j.front j.begins, goes_names Operand op counts j.first t j.others j.goes_on)
+    ap all_names j.whole ∙ omega (
+      arith,
+      names_append j.front j.others,
+      counts j.first j.front
+          j.begins,
+      goes_names Operand op counts j.first t j.others j.goes_on,
+    )
 
 expr_names : (Atom : Form → List Token → Type 0) → Counts Atom → Counts (IsExpr Atom)
 expr_names Atom counts =
     chain_names (Chain (Chain Atom operators.Meet) operators.Minus) operators.Union
-    (chain_names (Chain Atom operators.Meet) operators.Minus (chain_names Atom operators.Meet counts))
+    (chain_names (Chain Atom operators.Meet) operators.Minus
+    (chain_names Atom operators.Meet counts))
 
 -- a call's own name is no `span`
 unary_unspanned : (name : Word) (number : Option ℤ) (op : UnaryOp)
@@ -106,29 +134,48 @@ unary_unspanned : (name : Word) (number : Option ℤ) (op : UnaryOp)
 unary_unspanned words.Span number op e = absurd cc
 unary_unspanned name number op e = refl
 
-end_names : (Whole : Form → List Token → Type 0) → Counts Whole → (a t : Form) (name : Word) (ts : List Token) → CallEnd Whole a name t ts
+end_names : (Whole : Form → List Token → Type 0) → Counts Whole → (a t : Form) (name : Word)
+    (ts : List Token) → CallEnd Whole a name t ts
     → names (tokens.Word name) + (spans_in a + all_names ts) ≡ spans_in t
 end_names Whole whole a t name ts (unary_call _ None op named) =
     omega (arith, unary_unspanned name None op named)
 end_names Whole whole a t name ts (unary_call _ (Some n) op named) =
     omega (arith, unary_unspanned name (Some n) op named)
-end_names Whole whole a t name ts (pairs_call b inner spelled) = omega (arith, names_append inner (tokens.Close ∷ []), whole b inner spelled)
+end_names Whole whole a t name ts (pairs_call b inner spelled) =
+    omega (arith, names_append inner (tokens.Close ∷ []), whole b inner spelled)
 
-nested_names : (Whole Atom : Form → List Token → Type 0) → Counts Whole → Counts Atom → Counts (Nested Whole Atom)
+nested_names : (Whole Atom : Form → List Token → Type 0) → Counts Whole → Counts Atom
+    → Counts (Nested Whole Atom)
 nested_names Whole Atom whole atom t ts (leaf _ _ spelled) = leaf_names t ts spelled
-nested_names Whole Atom whole atom t ts (brackets _ inner spelled) = omega (arith, names_append inner (tokens.Close ∷ []), whole t inner spelled)
-nested_names Whole Atom whole atom t ts (inverse a inner spelled) = omega (arith, atom a inner spelled)
+nested_names Whole Atom whole atom t ts (brackets _ inner spelled) =
+    omega (arith, names_append inner (tokens.Close ∷ []), whole t inner spelled)
+nested_names Whole Atom whole atom t ts (inverse a inner spelled) =
+    omega (arith, atom a inner spelled)
 nested_names Whole Atom whole atom t ts (call name a _ inner others spelled end) =
-    omega (arith, names_append inner others, whole a inner spelled, end_names Whole whole a t name others end)
+    omega (
+      arith,
+      names_append inner others,
+      whole a inner spelled,
+      end_names Whole whole a t name
+          others end,
+    )
 
 atom_names : (depth : ℕ) → Counts (IsAtom depth)
 unfolding IsAtom
 atom_names zero = leaf_names
-atom_names (suc depth) = nested_names (IsExpr (IsAtom depth)) (IsAtom depth) (expr_names (IsAtom depth) (atom_names depth)) (atom_names depth)
+atom_names (suc depth) = nested_names (IsExpr (IsAtom depth)) (IsAtom depth)
+    (expr_names (IsAtom depth) (atom_names depth)) (atom_names depth)
 
 whole_names : Counts (IsExpr (IsAtom nesting_limit))
 whole_names = expr_names (IsAtom nesting_limit) (atom_names nesting_limit)
 
 pub program_names : SpansAreNamed
 program_names p ts (one t _ spelled) = omega (arith, whole_names t ts spelled)
-program_names p ts (two t u xs ys first second) = omega (arith, names_append xs (tokens.Semicolon ∷ ys), whole_names t xs first, whole_names u ys second)
+program_names p ts (two t u xs ys first second) =
+    omega (
+      arith,
+      names_append xs (tokens.Semicolon ∷ ys),
+      whole_names t xs first,
+      whole_names u ys
+          second,
+    )

@@ -76,29 +76,40 @@ unless_or false f a c e = cc
 long_phase : IsPhase Anything (By unless_long) Anything
 long_phase = by_phase Anything Anything unless_long (λ a b h e. tt)
 
-kinds_in_range : (size : ℕ) (found : List (Token × ℕ)) → AllByRecursion (λ (x : Token × ℕ). IsInRange x.0) found → (ts : Tokens) → with_places size (Ok found) ≡ Ok ts → AreInRange ts
-kinds_in_range size found h ts e = subst AreInRange (let same : map (λ (x : Token × ℕ). (x.0, size - x.1)) found ≡ ts = cc in same) (mapped found h)
+kinds_in_range : (size : ℕ) (found : List (Token × ℕ))
+    → AllByRecursion (λ (x : Token × ℕ). IsInRange x.0) found → (ts : Tokens)
+    → with_places size (Ok found) ≡ Ok ts → AreInRange ts
+kinds_in_range size found h ts e =
+    subst AreInRange (let same : map (λ (x : Token × ℕ). (x.0, size - x.1)) found ≡ ts = cc in same)
+    (mapped found h)
   where
-    mapped : (found : List (Token × ℕ)) → AllByRecursion (λ (x : Token × ℕ). IsInRange x.0) found → AreInRange (map (λ (x : Token × ℕ). (x.0, size - x.1)) found)
+    mapped : (found : List (Token × ℕ)) → AllByRecursion (λ (x : Token × ℕ). IsInRange x.0) found
+        → AreInRange (map (λ (x : Token × ℕ). (x.0, size - x.1)) found)
     mapped [] h = tt
     mapped (x ∷ others) h = (h.0, mapped others h.1)
 
 tokens_phase : IsPhase Anything (By tokens_in) AreInRange
-tokens_phase = by_phase Anything AreInRange tokens_in (λ text ts h e. by_found text ts (reading_of text) refl e)
+tokens_phase = by_phase Anything AreInRange tokens_in
+    (λ text ts h e. by_found text ts (reading_of text) refl e)
   where
-    by_found : (text : List ℕ) (ts : Tokens) (found : Found) → reading_of text ≡ found → with_places (length text) found ≡ Ok ts → AreInRange ts
-    by_found text ts (Ok found) e d = kinds_in_range (length text) found (reading_in_range text found e) ts d
+    by_found : (text : List ℕ) (ts : Tokens) (found : Found) → reading_of text ≡ found
+        → with_places (length text) found ≡ Ok ts → AreInRange ts
+    by_found text ts (Ok found) e d = kinds_in_range (length text) found
+        (reading_in_range text found e) ts d
     by_found text ts (Err left) e d = absurd cc
 
 built_phase : IsPhase AreInRange (By unless_unbuilt) AreInRange
-built_phase = by_phase AreInRange AreInRange unless_unbuilt (λ ts us h e. subst AreInRange (unless_or (calls_unbuilt (kinds_of ts)) faults.Unbuilt ts us e) h)
+built_phase = by_phase AreInRange AreInRange unless_unbuilt
+    (λ ts us h e. subst AreInRange (unless_or (calls_unbuilt (kinds_of ts)) faults.Unbuilt ts us e)
+    h)
 
 -- as many places of spans as spans
 places_counted : (ts : Tokens) → length (span_places ts) ≡ all_names (kinds_of ts)
 places_counted [] = refl
 places_counted (x ∷ ts) = by_token x.0 ∙ ap (λ (n : ℕ). names x.0 + n) (places_counted ts)
   where
-    by_token : (t : Token) → length (cond (is_span_name t) (x.1 ∷ span_places ts) (span_places ts)) ≡ names t + length (span_places ts)
+    by_token : (t : Token) → length (cond (is_span_name t) (x.1 ∷ span_places ts) (span_places ts))
+        ≡ names t + length (span_places ts)
     by_token (tokens.Word words.Span) = omega arith
     by_token t = omega arith
 
@@ -109,24 +120,30 @@ spans_counted (forms.Span low high) = refl
 spans_counted (forms.Rule freq fields) = refl
 spans_counted (forms.Rrule text start) = refl
 spans_counted (forms.Unary op a) = spans_counted a
-spans_counted (forms.Binary op a b) = omega (arith, length-append (spans_of a) (spans_of b), spans_counted a, spans_counted b)
+spans_counted (forms.Binary op a b) =
+    omega (arith, length-append (spans_of a) (spans_of b), spans_counted a, spans_counted b)
 
 second_counted : (o : Option Form) → length (second_spans o) ≡ second_in o
 second_counted None = refl
 second_counted (Some t) = spans_counted t
 
-module _ (one_program : SpellOne) (decided : SpellOrNot) (kept : MomentsAreKept) (named_spans : SpansAreNamed)
+module _ (one_program : SpellOne) (decided : SpellOrNot) (kept : MomentsAreKept)
+    (named_spans : SpansAreNamed)
     (begins : LowBoundsBegin) (stops : HighBoundsEnd) (writable : RulesAreWritable) where
   spelled_phase : IsPhase AreInRange IsSpelled IsSpelling
-  spelled_phase = record { some = λ ts h. by_reading ts (decided (kinds_of ts)); one = one; gives = gives }
+  spelled_phase =
+      record { some = λ ts h. by_reading ts (decided (kinds_of ts)); one = one; gives = gives }
     where
-      by_reading : (ts : Tokens) → ((p : Forms) × Spells p (kinds_of ts)) ⊎ ((p : Forms) → Spells p (kinds_of ts) → ⊥)
+      by_reading : (ts : Tokens) → ((p : Forms) × Spells p (kinds_of ts))
+          ⊎ ((p : Forms) → Spells p (kinds_of ts) → ⊥)
           → (r : Result Spelling Fault) × IsSpelled ts r
       by_reading ts (inl x) = (Ok (record { tokens = ts; forms = x.0 }), spelled x.0 x.1)
       by_reading ts (inr none) = (Err faults.Syntax, unspelled none)
 
       one : (ts : Tokens) (r s : Result Spelling Fault) → IsSpelled ts r → IsSpelled ts s → r ≡ s
-      one ts r s (spelled p h) (spelled q k) = ap (λ (x : Forms). Ok (record { tokens = ts; forms = x })) (one_program p q (kinds_of ts) h k)
+      one ts r s (spelled p h) (spelled q k) =
+          ap (λ (x : Forms). Ok (record { tokens = ts; forms = x }))
+          (one_program p q (kinds_of ts) h k)
       one ts r s (spelled p h) (unspelled none) = absurd (none p h)
       one ts r s (unspelled none) (spelled p h) = absurd (none p h)
       one ts r s (unspelled none) (unspelled also) = refl
@@ -134,17 +151,33 @@ module _ (one_program : SpellOne) (decided : SpellOrNot) (kept : MomentsAreKept)
       gives : (ts : Tokens) (s : Spelling) → AreInRange ts → IsSpelled ts (Ok s) → IsSpelling s
       gives ts s h (spelled p k) = record { in_range = h; spells = k }
 
-  all_placed : (s : Spelling) → Spells s.forms (kinds_of s.tokens) → length (span_places s.tokens) ≡ length (all_spans_of s.forms)
+  all_placed : (s : Spelling) → Spells s.forms (kinds_of s.tokens) → length (span_places s.tokens)
+      ≡ length (all_spans_of s.forms)
   all_placed s h =
-      omega (arith, places_counted s.tokens, named_spans s.forms (kinds_of s.tokens) h, length-append (spans_of s.forms.first) (second_spans s.forms.second), spans_counted s.forms.first, second_counted s.forms.second)
+      omega (
+        arith,
+        places_counted s.tokens,
+        named_spans s.forms (kinds_of s.tokens) h,
+        length-append (spans_of s.forms.first) (second_spans s.forms.second),
+        spans_counted
+            s.forms.first,
+        second_counted s.forms.second,
+      )
 
   named_phase : IsPhase IsSpelling (By unless_nameless) IsNamed
-  named_phase = by_phase IsSpelling IsNamed unless_nameless (λ s u h e. by_first s u (first_nameless s.tokens) refl h e)
+  named_phase = by_phase IsSpelling IsNamed unless_nameless
+      (λ s u h e. by_first s u (first_nameless s.tokens) refl h e)
     where
-      by_first : (s u : Spelling) (o : Option ℕ) → first_nameless s.tokens ≡ o → IsSpelling s → or_nameless s o ≡ Ok u → IsNamed u
+      by_first : (s u : Spelling) (o : Option ℕ) → first_nameless s.tokens ≡ o → IsSpelling s
+          → or_nameless s o ≡ Ok u → IsNamed u
       by_first s u (Some byte) none h e = absurd cc
       by_first s u None none h e =
-          subst IsNamed (let same : s ≡ u = cc in same) (record { made = made_of kept s.tokens s.forms h.spells h.in_range none; placed = all_placed s h.spells })
+          subst IsNamed (let same : s ≡ u = cc in same)
+          (record {
+            made = made_of kept s.tokens s.forms h.spells h.in_range none;
+            placed =
+                all_placed s h.spells;
+          })
 
   held_phase : IsPhase IsNamed HasPositions IsHeld
   held_phase = record { some = some; one = one; gives = gives }
@@ -158,49 +191,67 @@ module _ (one_program : SpellOne) (decided : SpellOrNot) (kept : MomentsAreKept)
 
       one : (s : Spelling) (r t : Result Forms Fault) → HasPositions s r → HasPositions s t → r ≡ t
       one s r t (held h) (held k) = refl
-      one s r t (held h) (vacant b k) = absurd (none_vacant (all_spans_of s.forms) (span_places s.tokens) b k h)
-      one s r t (vacant b h) (held k) = absurd (none_vacant (all_spans_of s.forms) (span_places s.tokens) b h k)
-      one s r t (vacant b h) (vacant c k) = ap (λ (n : ℕ). Err (faults.Moment n)) (one_vacant (all_spans_of s.forms) (span_places s.tokens) b c h k)
+      one s r t (held h) (vacant b k) =
+          absurd (none_vacant (all_spans_of s.forms) (span_places s.tokens) b k h)
+      one s r t (vacant b h) (held k) =
+          absurd (none_vacant (all_spans_of s.forms) (span_places s.tokens) b h k)
+      one s r t (vacant b h) (vacant c k) = ap (λ (n : ℕ). Err (faults.Moment n))
+          (one_vacant (all_spans_of s.forms) (span_places s.tokens) b c h k)
 
       gives : (s : Spelling) (p : Forms) → IsNamed s → HasPositions s (Ok p) → IsHeld p
       gives s p h (held k) = record { made = h.made; spans = all_have_spans s.forms h.made k }
 
   ruled_phase : IsPhase IsHeld (By unless_rule_fault) IsRuled
-  ruled_phase = by_phase IsHeld IsRuled unless_rule_fault (λ p q h e. by_first p q (first_rule_fault p) refl h e)
+  ruled_phase = by_phase IsHeld IsRuled unless_rule_fault
+      (λ p q h e. by_first p q (first_rule_fault p) refl h e)
     where
-      by_first : (p q : Forms) (o : Option RuleFault) → first_rule_fault p ≡ o → IsHeld p → or_rule_fault p o ≡ Ok q → IsRuled q
+      by_first : (p q : Forms) (o : Option RuleFault) → first_rule_fault p ≡ o → IsHeld p
+          → or_rule_fault p o ≡ Ok q → IsRuled q
       by_first p q (Some fault) none h e = absurd cc
       by_first p q None none h e =
-          subst IsRuled (let same : p ≡ q = cc in same) (record { made = h.made; spans = h.spans; ruled = none })
+          subst IsRuled (let same : p ≡ q = cc in same)
+          (record { made = h.made; spans = h.spans; ruled = none })
 
   written_phase : IsPhase IsRuled (By unless_rrule_fault) IsWhole
-  written_phase = by_phase IsRuled IsWhole unless_rrule_fault (λ p q h e. by_first p q (first_rrule_fault p) refl h e)
+  written_phase = by_phase IsRuled IsWhole unless_rrule_fault
+      (λ p q h e. by_first p q (first_rrule_fault p) refl h e)
     where
-      by_first : (p q : Forms) (o : Option RruleFault) → first_rrule_fault p ≡ o → IsRuled p → or_rrule_fault p o ≡ Ok q → IsWhole q
+      by_first : (p q : Forms) (o : Option RruleFault) → first_rrule_fault p ≡ o → IsRuled p
+          → or_rrule_fault p o ≡ Ok q → IsWhole q
       by_first p q (Some fault) none h e = absurd cc
       by_first p q None none h e =
-          subst IsWhole (let same : p ≡ q = cc in same) (record { made = h.made; spans = h.spans; ruled = h.ruled; written = none })
+          subst IsWhole (let same : p ≡ q = cc in same)
+          (record { made = h.made; spans = h.spans; ruled = h.ruled; written = none })
 
   sorted_phase : IsPhase IsWhole IsSorted IsAccepted
   sorted_phase = record { some = some; one = one; gives = gives }
     where
-      by_fault : (p : Forms) (trees : Trees) → trees_from p ≡ Some trees → (o : Option SortFault) → sort_fault trees ≡ o → (r : Result Trees Fault) × IsSorted p r
+      by_fault : (p : Forms) (trees : Trees) → trees_from p ≡ Some trees → (o : Option SortFault)
+          → sort_fault trees ≡ o → (r : Result Trees Fault) × IsSorted p r
       by_fault p trees is None e = (Ok trees, sorted trees is e)
       by_fault p trees is (Some fault) e = (Err (faults.Sort fault), unsorted trees fault is e)
 
       some : (p : Forms) → IsWhole p → (r : Result Trees Fault) × IsSorted p r
-      some p h = let x = all_stand writable p h.made h.spans h.ruled h.written in by_fault p x.trees x.are (sort_fault x.trees) refl
+      some p h = let x = all_stand writable p h.made h.spans h.ruled h.written in
+          by_fault p x.trees x.are (sort_fault x.trees) refl
 
       one : (p : Forms) (r s : Result Trees Fault) → IsSorted p r → IsSorted p s → r ≡ s
-      one p r s (sorted x is e) (sorted y also d) = let same : x ≡ y = cc in ap (λ (t : Trees). Ok t) same
+      one p r s (sorted x is e) (sorted y also d) = let same : x ≡ y = cc in
+          ap (λ (t : Trees). Ok t) same
       one p r s (sorted x is e) (unsorted y fault also d) = let same : x ≡ y = cc in absurd cc
       one p r s (unsorted x fault is e) (sorted y also d) = let same : x ≡ y = cc in absurd cc
-      one p r s (unsorted x fault is e) (unsorted y other also d) = let same : x ≡ y = cc in let faults_same : fault ≡ other = cc in ap (λ (f : SortFault). Err (faults.Sort f)) faults_same
+      one p r s (unsorted x fault is e) (unsorted y other also d) = let same : x ≡ y = cc in
+          let faults_same : fault ≡ other = cc in ap (λ (f : SortFault). Err (faults.Sort f))
+          faults_same
 
       gives : (p : Forms) (trees : Trees) → IsWhole p → IsSorted p (Ok trees) → IsAccepted trees
       gives p trees h (sorted _ is e) =
           let x = all_stand writable p h.made h.spans h.ruled h.written in
-          record { well_formed = subst AreWellFormed (let are = x.are in let same : x.trees ≡ trees = cc in same) x.well_formed; sorted = e }
+          record {
+            well_formed = subst AreWellFormed (let are = x.are in let same : x.trees
+                ≡ trees = cc in same) x.well_formed;
+            sorted = e;
+          }
 
   all_phases : IsPhase Anything IsRead IsAccepted
   all_phases =
@@ -211,7 +262,8 @@ module _ (one_program : SpellOne) (decided : SpellOrNot) (kept : MomentsAreKept)
       (then_phase (By unless_nameless) _ IsSpelling IsNamed IsAccepted named_phase
       (then_phase HasPositions _ IsNamed IsHeld IsAccepted held_phase
       (then_phase (By unless_rule_fault) _ IsHeld IsRuled IsAccepted ruled_phase
-      (then_phase (By unless_rrule_fault) IsSorted IsRuled IsWhole IsAccepted written_phase sorted_phase)))))))
+      (then_phase (By unless_rrule_fault) IsSorted IsRuled IsWhole IsAccepted written_phase
+      sorted_phase)))))))
 
   pub readings_exist : ReadingsExist
   readings_exist text = all_phases.some text tt

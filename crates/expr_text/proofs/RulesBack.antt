@@ -62,15 +62,19 @@ same_place keys.Seconds = refl
 same_place keys.Interval = refl
 same_place keys.WeekStart = refl
 
-found_at : (key : Key) (ns : List ℤ) (fields : List FieldForm) → numbers_of key fields ≡ [] → numbers_of key (with_numbers key ns fields) ≡ ns
+found_at : (key : Key) (ns : List ℤ) (fields : List FieldForm) → numbers_of key fields ≡ []
+    → numbers_of key (with_numbers key ns fields) ≡ ns
 found_at key [] fields e = e
 found_at key (n ∷ ns) fields e = rw (same_place key) refl
 
-passed_at : (key other : Key) (ns : List ℤ) (fields : List FieldForm) → (key_place other == key_place key) ≡ false → numbers_of key (with_numbers other ns fields) ≡ numbers_of key fields
+passed_at : (key other : Key) (ns : List ℤ) (fields : List FieldForm)
+    → (key_place other == key_place key) ≡ false → numbers_of key (with_numbers other ns fields)
+    ≡ numbers_of key fields
 passed_at key other [] fields h = refl
 passed_at key other (n ∷ ns) fields h = rw h refl
 
-passed_start : (key : Key) (start : Option Stamp) (fields : List FieldForm) → numbers_of key (with_start start fields) ≡ numbers_of key fields
+passed_start : (key : Key) (start : Option Stamp) (fields : List FieldForm)
+    → numbers_of key (with_start start fields) ≡ numbers_of key fields
 passed_start key None fields = refl
 passed_start key (Some s) fields = refl
 
@@ -85,42 +89,63 @@ module _ (r : FieldRule) (key : Key) where
   past_start : Differ key keys.WeekStart → numbers_of key (from_start r) ≡ []
   past_start h = passed_start key r.start (from_week_start r) ∙ past_week_start h
 
-  past_interval : Differ key keys.Interval → Differ key keys.WeekStart → numbers_of key (from_interval r) ≡ []
-  past_interval i h = passed_at key keys.Interval (interval_printed r.interval) (from_start r) i ∙ past_start h
+  past_interval : Differ key keys.Interval → Differ key keys.WeekStart
+      → numbers_of key (from_interval r) ≡ []
+  past_interval i h = passed_at key keys.Interval (interval_printed r.interval) (from_start r) i
+      ∙ past_start h
 
-  past_seconds : Differ key keys.Seconds → Differ key keys.Interval → Differ key keys.WeekStart → numbers_of key (from_seconds r) ≡ []
+  past_seconds : Differ key keys.Seconds → Differ key keys.Interval → Differ key keys.WeekStart
+      → numbers_of key (from_seconds r) ≡ []
   past_seconds s i h = passed_at key keys.Seconds r.seconds (from_interval r) s ∙ past_interval i h
 
-  past_minutes : Differ key keys.Minutes → Differ key keys.Seconds → Differ key keys.Interval → Differ key keys.WeekStart → numbers_of key (from_minutes r) ≡ []
-  past_minutes m s i h = passed_at key keys.Minutes r.minutes (from_seconds r) m ∙ past_seconds s i h
+  past_minutes : Differ key keys.Minutes → Differ key keys.Seconds → Differ key keys.Interval
+      → Differ key keys.WeekStart → numbers_of key (from_minutes r) ≡ []
+  past_minutes m s i h = passed_at key keys.Minutes r.minutes (from_seconds r) m
+      ∙ past_seconds s i h
 
-  past_hours : Differ key keys.Hours → Differ key keys.Minutes → Differ key keys.Seconds → Differ key keys.Interval → Differ key keys.WeekStart → numbers_of key (from_hours r) ≡ []
+  past_hours : Differ key keys.Hours → Differ key keys.Minutes → Differ key keys.Seconds
+      → Differ key keys.Interval → Differ key keys.WeekStart → numbers_of key (from_hours r) ≡ []
   past_hours o m s i h = passed_at key keys.Hours r.hours (from_minutes r) o ∙ past_minutes m s i h
 
-  past_days : Differ key keys.Days → Differ key keys.Hours → Differ key keys.Minutes → Differ key keys.Seconds → Differ key keys.Interval → Differ key keys.WeekStart → numbers_of key (from_days r) ≡ []
+  past_days : Differ key keys.Days → Differ key keys.Hours → Differ key keys.Minutes
+      → Differ key keys.Seconds → Differ key keys.Interval → Differ key keys.WeekStart
+      → numbers_of key (from_days r) ≡ []
   past_days d o m s i h = passed_at key keys.Days r.days (from_hours r) d ∙ past_hours o m s i h
 
-  past_weeks : Differ key keys.Weeks → Differ key keys.Days → Differ key keys.Hours → Differ key keys.Minutes → Differ key keys.Seconds → Differ key keys.Interval → Differ key keys.WeekStart → numbers_of key (from_weeks r) ≡ []
-  past_weeks w d o m s i h = passed_at key keys.Weeks r.weeks (from_days r) w ∙ past_days d o m s i h
+  past_weeks : Differ key keys.Weeks → Differ key keys.Days → Differ key keys.Hours
+      → Differ key keys.Minutes → Differ key keys.Seconds → Differ key keys.Interval
+      → Differ key keys.WeekStart → numbers_of key (from_weeks r) ≡ []
+  past_weeks w d o m s i h = passed_at key keys.Weeks r.weeks (from_days r) w
+      ∙ past_days d o m s i h
 
   -- up to another key
-  to_weeks : Differ key keys.Months → numbers_of key (written_fields r) ≡ numbers_of key (from_weeks r)
+  to_weeks : Differ key keys.Months → numbers_of key (written_fields r)
+      ≡ numbers_of key (from_weeks r)
   to_weeks a = passed_at key keys.Months r.months (from_weeks r) a
 
-  to_days : Differ key keys.Months → Differ key keys.Weeks → numbers_of key (written_fields r) ≡ numbers_of key (from_days r)
+  to_days : Differ key keys.Months → Differ key keys.Weeks → numbers_of key (written_fields r)
+      ≡ numbers_of key (from_days r)
   to_days a b = to_weeks a ∙ passed_at key keys.Weeks r.weeks (from_days r) b
 
-  to_hours : Differ key keys.Months → Differ key keys.Weeks → Differ key keys.Days → numbers_of key (written_fields r) ≡ numbers_of key (from_hours r)
+  to_hours : Differ key keys.Months → Differ key keys.Weeks → Differ key keys.Days
+      → numbers_of key (written_fields r) ≡ numbers_of key (from_hours r)
   to_hours a b c = to_days a b ∙ passed_at key keys.Days r.days (from_hours r) c
 
-  to_minutes : Differ key keys.Months → Differ key keys.Weeks → Differ key keys.Days → Differ key keys.Hours → numbers_of key (written_fields r) ≡ numbers_of key (from_minutes r)
+  to_minutes : Differ key keys.Months → Differ key keys.Weeks → Differ key keys.Days
+      → Differ key keys.Hours → numbers_of key (written_fields r) ≡ numbers_of key (from_minutes r)
   to_minutes a b c d = to_hours a b c ∙ passed_at key keys.Hours r.hours (from_minutes r) d
 
-  to_seconds : Differ key keys.Months → Differ key keys.Weeks → Differ key keys.Days → Differ key keys.Hours → Differ key keys.Minutes → numbers_of key (written_fields r) ≡ numbers_of key (from_seconds r)
-  to_seconds a b c d e = to_minutes a b c d ∙ passed_at key keys.Minutes r.minutes (from_seconds r) e
+  to_seconds : Differ key keys.Months → Differ key keys.Weeks → Differ key keys.Days
+      → Differ key keys.Hours → Differ key keys.Minutes → numbers_of key (written_fields r)
+      ≡ numbers_of key (from_seconds r)
+  to_seconds a b c d e = to_minutes a b c d ∙ passed_at key keys.Minutes r.minutes (from_seconds r)
+      e
 
-  to_interval : Differ key keys.Months → Differ key keys.Weeks → Differ key keys.Days → Differ key keys.Hours → Differ key keys.Minutes → Differ key keys.Seconds → numbers_of key (written_fields r) ≡ numbers_of key (from_interval r)
-  to_interval a b c d e f = to_seconds a b c d e ∙ passed_at key keys.Seconds r.seconds (from_interval r) f
+  to_interval : Differ key keys.Months → Differ key keys.Weeks → Differ key keys.Days
+      → Differ key keys.Hours → Differ key keys.Minutes → Differ key keys.Seconds
+      → numbers_of key (written_fields r) ≡ numbers_of key (from_interval r)
+  to_interval a b c d e f = to_seconds a b c d e ∙ passed_at key keys.Seconds r.seconds
+      (from_interval r) f
 
 interval_back : (n : ℤ) → interval_of (first_of (interval_printed n)) ≡ n
 interval_back n = by_value (int_eq n (pos 1)) refl
@@ -135,7 +160,8 @@ week_start_back (Some n) = refl
 
 -- the start's literal
 
-literal_past : (key : Key) (ns : List ℤ) (fields : List FieldForm) → literal_in (with_numbers key ns fields) ≡ literal_in fields
+literal_past : (key : Key) (ns : List ℤ) (fields : List FieldForm)
+    → literal_in (with_numbers key ns fields) ≡ literal_in fields
 literal_past key [] fields = refl
 literal_past key (n ∷ ns) fields = refl
 
@@ -143,32 +169,61 @@ abbrev literal_of_start : Option Stamp → Option (Option Stamp)
 literal_of_start None = None
 literal_of_start (Some s) = Some (Some s)
 
-literal_at : (start : Option Stamp) (fields : List FieldForm) → literal_in fields ≡ None → literal_in (with_start start fields) ≡ literal_of_start start
+literal_at : (start : Option Stamp) (fields : List FieldForm) → literal_in fields ≡ None
+    → literal_in (with_start start fields) ≡ literal_of_start start
 literal_at None fields e = e
 literal_at (Some s) fields e = refl
 
 literal_back : (r : FieldRule) → literal_in (written_fields r) ≡ literal_of_start r.start
 literal_back r =
-    literal_past keys.Months r.months (from_weeks r) ∙ literal_past keys.Weeks r.weeks (from_days r) ∙ literal_past keys.Days r.days (from_hours r)
-    ∙ literal_past keys.Hours r.hours (from_minutes r) ∙ literal_past keys.Minutes r.minutes (from_seconds r) ∙ literal_past keys.Seconds r.seconds (from_interval r)
-    ∙ literal_past keys.Interval (interval_printed r.interval) (from_start r) ∙ literal_at r.start (from_week_start r) (literal_past keys.WeekStart (option_to_list r.week_start) [])
+    literal_past keys.Months r.months (from_weeks r) ∙ literal_past keys.Weeks r.weeks (from_days r)
+    ∙ literal_past keys.Days r.days (from_hours r)
+    ∙ literal_past keys.Hours r.hours (from_minutes r) ∙ literal_past keys.Minutes r.minutes
+    (from_seconds r) ∙ literal_past keys.Seconds r.seconds (from_interval r)
+    ∙ literal_past keys.Interval (interval_printed r.interval) (from_start r)
+    ∙ literal_at r.start (from_week_start r)
+    (literal_past keys.WeekStart (option_to_list r.week_start) [])
 
-from_literal : (r : FieldRule) (fields : List FieldForm) (start : Option Stamp) → rule_with r.freq fields start ≡ r → literal_in fields ≡ literal_of_start start → rule_from r.freq fields ≡ Some r
+from_literal : (r : FieldRule) (fields : List FieldForm) (start : Option Stamp)
+    → rule_with r.freq fields start ≡ r → literal_in fields ≡ literal_of_start start
+    → rule_from r.freq fields ≡ Some r
 from_literal r fields None e d = rw d (ap (λ (x : FieldRule). Some x) e)
 from_literal r fields (Some s) e d = rw d (ap (λ (x : FieldRule). Some x) e)
 
 fields_back : (r : FieldRule) → rule_with r.freq (written_fields r) r.start ≡ r
 fields_back r =
-    let months = found_at keys.Months r.months (from_weeks r) (past_weeks r keys.Months refl refl refl refl refl refl refl) in
-    let weeks = to_weeks r keys.Weeks refl ∙ found_at keys.Weeks r.weeks (from_days r) (past_days r keys.Weeks refl refl refl refl refl refl) in
-    let days = to_days r keys.Days refl refl ∙ found_at keys.Days r.days (from_hours r) (past_hours r keys.Days refl refl refl refl refl) in
-    let hours = to_hours r keys.Hours refl refl refl ∙ found_at keys.Hours r.hours (from_minutes r) (past_minutes r keys.Hours refl refl refl refl) in
-    let minutes = to_minutes r keys.Minutes refl refl refl refl ∙ found_at keys.Minutes r.minutes (from_seconds r) (past_seconds r keys.Minutes refl refl refl) in
-    let seconds = to_seconds r keys.Seconds refl refl refl refl refl ∙ found_at keys.Seconds r.seconds (from_interval r) (past_interval r keys.Seconds refl refl) in
-    let interval = to_interval r keys.Interval refl refl refl refl refl refl ∙ found_at keys.Interval (interval_printed r.interval) (from_start r) (past_start r keys.Interval refl) in
-    let week_start = to_interval r keys.WeekStart refl refl refl refl refl refl ∙ passed_at keys.WeekStart keys.Interval (interval_printed r.interval) (from_start r) refl
-    ∙ passed_start keys.WeekStart r.start (from_week_start r) ∙ found_at keys.WeekStart (option_to_list r.week_start) [] refl in
-    rw (months, weeks, days, hours, minutes, seconds, interval, week_start, interval_back r.interval, week_start_back r.week_start) refl
+    let months = found_at keys.Months r.months (from_weeks r)
+    (past_weeks r keys.Months refl refl refl refl refl refl refl) in
+    let weeks = to_weeks r keys.Weeks refl ∙ found_at keys.Weeks r.weeks (from_days r)
+    (past_days r keys.Weeks refl refl refl refl refl refl) in
+    let days = to_days r keys.Days refl refl ∙ found_at keys.Days r.days (from_hours r)
+    (past_hours r keys.Days refl refl refl refl refl) in
+    let hours = to_hours r keys.Hours refl refl refl ∙ found_at keys.Hours r.hours (from_minutes r)
+    (past_minutes r keys.Hours refl refl refl refl) in
+    let minutes = to_minutes r keys.Minutes refl refl refl refl ∙ found_at keys.Minutes r.minutes
+    (from_seconds r) (past_seconds r keys.Minutes refl refl refl) in
+    let seconds = to_seconds r keys.Seconds refl refl refl refl refl ∙ found_at keys.Seconds
+    r.seconds (from_interval r) (past_interval r keys.Seconds refl refl) in
+    let interval = to_interval r keys.Interval refl refl refl refl refl refl
+    ∙ found_at keys.Interval (interval_printed r.interval) (from_start r)
+    (past_start r keys.Interval refl) in
+    let week_start = to_interval r keys.WeekStart refl refl refl refl refl refl
+    ∙ passed_at keys.WeekStart keys.Interval (interval_printed r.interval) (from_start r) refl
+    ∙ passed_start keys.WeekStart r.start (from_week_start r) ∙ found_at keys.WeekStart
+    (option_to_list r.week_start) [] refl in
+    rw (
+      months,
+      weeks,
+      days,
+      hours,
+      minutes,
+      seconds,
+      interval,
+      week_start,
+      interval_back
+          r.interval,
+      week_start_back r.week_start,
+    ) refl
 
 pub rule_back : (r : FieldRule) → rule_from r.freq (written_fields r) ≡ Some r
 rule_back r = from_literal r (written_fields r) r.start (fields_back r) (literal_back r)
@@ -178,12 +233,14 @@ rule_back r = from_literal r (written_fields r) r.start (fields_back r) (literal
 abbrev AllHave : List FieldForm → Type 0
 AllHave fields = AllByRecursion HasNumbers fields
 
-many_kept : (key : Key) (ns : List ℤ) (fields : List FieldForm) → is_single key ≡ false → AllHave fields → AllHave (with_numbers key ns fields)
+many_kept : (key : Key) (ns : List ℤ) (fields : List FieldForm) → is_single key ≡ false
+    → AllHave fields → AllHave (with_numbers key ns fields)
 many_kept key [] fields e h = h
 many_kept key (n ∷ []) fields e h = (tt, h)
 many_kept key (n ∷ m ∷ ns) fields e h = (e, h)
 
-interval_kept : (n : ℤ) (fields : List FieldForm) → AllHave fields → AllHave (with_numbers keys.Interval (interval_printed n) fields)
+interval_kept : (n : ℤ) (fields : List FieldForm) → AllHave fields
+    → AllHave (with_numbers keys.Interval (interval_printed n) fields)
 interval_kept n fields h = by_value (int_eq n (pos 1))
   where
     by_value : (b : Bool) → AllHave (with_numbers keys.Interval (cond b [] (n ∷ [])) fields)
@@ -194,7 +251,8 @@ week_start_kept : (o : Option ℤ) → AllHave (with_numbers keys.WeekStart (opt
 week_start_kept None = tt
 week_start_kept (Some n) = (tt, tt)
 
-start_kept : (o : Option Stamp) (fields : List FieldForm) → AllHave fields → AllHave (with_start o fields)
+start_kept : (o : Option Stamp) (fields : List FieldForm) → AllHave fields
+    → AllHave (with_start o fields)
 start_kept None fields h = h
 start_kept (Some s) fields h = (tt, h)
 
@@ -210,14 +268,16 @@ later_still : (n m : ℕ) (fields : List FieldForm) → n ≤ m → Later m fiel
 later_still n m [] le h = tt
 later_still n m (f ∷ fields) le h = (omega (arith, le, h.0), later_still n m fields le h.1)
 
-apart : (f : FieldForm) (fields : List FieldForm) → Later (field_place f) fields → AllByRecursion (λ g. same_key f g ≡ false) fields
+apart : (f : FieldForm) (fields : List FieldForm) → Later (field_place f) fields
+    → AllByRecursion (λ g. same_key f g ≡ false) fields
 apart f [] h = tt
 apart f (g ∷ fields) h = (not_equal (field_place f) (field_place g) h.0, apart f fields h.1)
   where
     not_equal : (a b : ℕ) → a < b → (a == b) ≡ false
     not_equal a b less = grind (arith, nat_tests)
 
-with_field : (n : ℕ) (f : FieldForm) (fields : List FieldForm) → n < field_place f → Ordered (field_place f) fields → Ordered n (f ∷ fields)
+with_field : (n : ℕ) (f : FieldForm) (fields : List FieldForm) → n < field_place f
+    → Ordered (field_place f) fields → Ordered n (f ∷ fields)
 unfolding IsDistinct
 with_field n f fields less h = record {
   later = (less, later_still n (field_place f) fields (omega (arith, less)) h.later);
@@ -225,17 +285,23 @@ with_field n f fields less h = record {
 }
 
 without : (n m : ℕ) (fields : List FieldForm) → n < m → Ordered m fields → Ordered n fields
-without n m fields less h = record { later = later_still n m fields (omega (arith, less)) h.later; once = h.once }
+without n m fields less h = record {
+  later = later_still n m fields (omega (arith, less)) h.later;
+  once = h.once;
+}
 
-numbers_ordered : (n : ℕ) (key : Key) (ns : List ℤ) (fields : List FieldForm) → n < key_place key → Ordered (key_place key) fields → Ordered n (with_numbers key ns fields)
+numbers_ordered : (n : ℕ) (key : Key) (ns : List ℤ) (fields : List FieldForm) → n < key_place key
+    → Ordered (key_place key) fields → Ordered n (with_numbers key ns fields)
 numbers_ordered n key [] fields less h = without n (key_place key) fields less h
 numbers_ordered n key (m ∷ ns) fields less h = with_field n (Values key (m ∷ ns)) fields less h
 
-start_ordered : (o : Option Stamp) (fields : List FieldForm) → Ordered 7 fields → Ordered 6 (with_start o fields)
+start_ordered : (o : Option Stamp) (fields : List FieldForm) → Ordered 7 fields
+    → Ordered 6 (with_start o fields)
 start_ordered None fields h = without 6 7 fields (omega arith) h
 start_ordered (Some s) fields h = with_field 6 (Start (Some s)) fields (omega arith) h
 
-months_once : (ns : List ℤ) (fields : List FieldForm) → Ordered 0 fields → IsDistinct same_key (with_numbers keys.Months ns fields)
+months_once : (ns : List ℤ) (fields : List FieldForm) → Ordered 0 fields
+    → IsDistinct same_key (with_numbers keys.Months ns fields)
 unfolding IsDistinct
 months_once [] fields h = h.once
 months_once (n ∷ ns) fields h = (apart (Values keys.Months (n ∷ ns)) fields h.later, h.once)
@@ -247,12 +313,21 @@ nothing_ordered = record { later = tt; once = tt }
 pub are_fields : (r : FieldRule) → AreFields (written_fields r)
 are_fields r = record {
   numbers =
-      many_kept keys.Months r.months (from_weeks r) refl (many_kept keys.Weeks r.weeks (from_days r) refl (many_kept keys.Days r.days (from_hours r) refl
-      (many_kept keys.Hours r.hours (from_minutes r) refl (many_kept keys.Minutes r.minutes (from_seconds r) refl (many_kept keys.Seconds r.seconds (from_interval r) refl
-      (interval_kept r.interval (from_start r) (start_kept r.start (from_week_start r) (week_start_kept r.week_start))))))));
+      many_kept keys.Months r.months (from_weeks r) refl (many_kept keys.Weeks r.weeks (from_days r)
+      refl (many_kept keys.Days r.days (from_hours r) refl
+      (many_kept keys.Hours r.hours (from_minutes r) refl
+      (many_kept keys.Minutes r.minutes (from_seconds r) refl
+      (many_kept keys.Seconds r.seconds (from_interval r) refl
+      (interval_kept r.interval (from_start r)
+      (start_kept r.start (from_week_start r) (week_start_kept r.week_start))))))));
   once =
-      months_once r.months (from_weeks r) (numbers_ordered 0 keys.Weeks r.weeks (from_days r) (omega arith) (numbers_ordered 1 keys.Days r.days (from_hours r) (omega arith)
-      (numbers_ordered 2 keys.Hours r.hours (from_minutes r) (omega arith) (numbers_ordered 3 keys.Minutes r.minutes (from_seconds r) (omega arith)
-      (numbers_ordered 4 keys.Seconds r.seconds (from_interval r) (omega arith) (numbers_ordered 5 keys.Interval (interval_printed r.interval) (from_start r) (omega arith)
-      (start_ordered r.start (from_week_start r) (numbers_ordered 7 keys.WeekStart (option_to_list r.week_start) [] (omega arith) nothing_ordered))))))));
+      months_once r.months (from_weeks r) (numbers_ordered 0 keys.Weeks r.weeks (from_days r)
+      (omega arith) (numbers_ordered 1 keys.Days r.days (from_hours r) (omega arith)
+      (numbers_ordered 2 keys.Hours r.hours (from_minutes r) (omega arith)
+      (numbers_ordered 3 keys.Minutes r.minutes (from_seconds r) (omega arith)
+      (numbers_ordered 4 keys.Seconds r.seconds (from_interval r) (omega arith)
+      (numbers_ordered 5 keys.Interval (interval_printed r.interval) (from_start r) (omega arith)
+      (start_ordered r.start (from_week_start r)
+      (numbers_ordered 7 keys.WeekStart (option_to_list r.week_start) [] (omega arith)
+      nothing_ordered))))))));
 }

@@ -22,7 +22,8 @@ zero_in_range = grind (arith, ints)
 
 pub started : (fields : List FieldForm) → AllByRecursion (FieldHas IsDated) fields → Started fields
 started [] h = record { start = None; found = refl; in_range = zero_in_range }
-started (Values key values ∷ fields) h = let x = started fields h.1 in record { start = x.start; found = x.found; in_range = x.in_range }
+started (Values key values ∷ fields) h = let x = started fields h.1 in
+    record { start = x.start; found = x.found; in_range = x.in_range }
 started (Start None ∷ fields) h = absurd h.0
 started (Start (Some s) ∷ fields) h = record { start = Some s; found = refl; in_range = h.0 }
 
@@ -35,6 +36,7 @@ neither None b e = (refl, e)
 neither (Some fault) b e = absurd cc
 
 -- a literal that names a start is that start
-pub same_start : (literal start : Option Stamp) → start_from (Some literal) ≡ Some start → start_from (Some literal) ≡ Some literal
+pub same_start : (literal start : Option Stamp) → start_from (Some literal) ≡ Some start
+    → start_from (Some literal) ≡ Some literal
 same_start None start e = absurd cc
 same_start (Some s) start e = refl

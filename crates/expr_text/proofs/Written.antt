@@ -49,7 +49,8 @@ second_shown : (o : Option (Tree Rule)) → IsWellFormedSecond o → HasShortSec
 second_shown None h short = tt
 second_shown (Some t) h short = (h, short)
 
-pub all_shown : (p : Trees) → AreWellFormed p → HasShortStrings p.first × HasShortSecond p.second → AreShown p
+pub all_shown : (p : Trees) → AreWellFormed p → HasShortStrings p.first × HasShortSecond p.second
+    → AreShown p
 all_shown p h short = ((h.0, short.0), second_shown p.second h.1 short.1)
 
 -- of two trees that are shown
@@ -75,7 +76,8 @@ literals_of stamps = map (λ s. Some s) stamps
 abbrev pub written : Tree Rule → Form
 written Empty = forms.Empty
 written (Ruled (Listed stamps)) = forms.Listed (literals_of stamps)
-written (Spanned bounds low high) = forms.Span (written_bound bounds.0 low) (written_bound bounds.1 high)
+written (Spanned bounds low high) = forms.Span (written_bound bounds.0 low)
+    (written_bound bounds.1 high)
 written (Ruled (Field rule)) = forms.Rule rule.freq (written_fields rule)
 written (Ruled (Ical rule)) = forms.Rrule (text_of rule) (Some rule.start)
 written (Joined op a b) = forms.Binary (binaries.Infix op) (written a) (written b)
@@ -101,7 +103,8 @@ bound_back (Open t) clock h = refl
 bound_back Inf clock h = refl
 bound_back Edge clock h = absurd h
 
-clock_back : (b : Bound) (clock : Clock) → IsGiven b → HasClock b clock → clock_of (written_bound b clock) ≡ clock
+clock_back : (b : Bound) (clock : Clock) → IsGiven b → HasClock b clock
+    → clock_of (written_bound b clock) ≡ clock
 clock_back (Closed t) Any h decided = let e = decided.1 refl in absurd cc
 clock_back (Closed t) Floating h decided = refl
 clock_back (Closed t) Absolute h decided = refl
@@ -111,27 +114,44 @@ clock_back (Open t) Absolute h decided = refl
 clock_back Inf clock h decided = sym (decided.0 refl)
 clock_back Edge clock h decided = absurd h
 
-span_back : (bounds : Bound × Bound) (low high : Clock) → IsGiven bounds.0 → IsGiven bounds.1 → HasClock bounds.0 low → HasClock bounds.1 high
-    → tree_from (forms.Span (written_bound bounds.0 low) (written_bound bounds.1 high)) ≡ Some (Spanned bounds low high)
+span_back : (bounds : Bound × Bound) (low high : Clock) → IsGiven bounds.0 → IsGiven bounds.1
+    → HasClock bounds.0 low → HasClock bounds.1 high
+    → tree_from (forms.Span (written_bound bounds.0 low) (written_bound bounds.1 high))
+    ≡ Some (Spanned bounds low high)
 span_back bounds low high first second low_clock high_clock =
-    rw (named_back bounds.0 low, named_back bounds.1 high, bound_back bounds.0 low first, bound_back bounds.1 high second, clock_back bounds.0 low first low_clock, clock_back bounds.1 high second high_clock) refl
+    rw (
+      named_back bounds.0 low,
+      named_back bounds.1 high,
+      bound_back bounds.0 low first,
+      bound_back
+          bounds.1 high second,
+      clock_back bounds.0 low first low_clock,
+      clock_back bounds.1 high second
+          high_clock,
+    ) refl
 
 module _ (back : WrittenIsRead) where
-  rrule_back : (rule : IcalRule) → IsWellFormed (Ruled (Ical rule)) → rrule_from (text_of rule) (Some rule.start) ≡ Some rule
+  rrule_back : (rule : IcalRule) → IsWellFormed (Ruled (Ical rule)) → rrule_from (text_of rule)
+      (Some rule.start) ≡ Some rule
   rrule_back rule h = ap rule_in (back rule h.0 h.1)
 
   -- what is written of a well-formed tree stands for it
   pub tree_back : (t : Tree Rule) → IsShown t → tree_from (written t) ≡ Some t
   tree_back Empty h = refl
   tree_back (Ruled (Listed stamps)) h = ap (option_map listed) (stamps_back stamps)
-  tree_back (Spanned bounds low high) h = span_back bounds low high h.0.0.low_given h.0.0.high_given h.0.1 h.0.2
-  tree_back (Ruled (Field rule)) h = ap (option_map (λ (r : FieldRule). Ruled (Field r))) (rule_back rule)
-  tree_back (Ruled (Ical rule)) h = ap (option_map (λ (r : IcalRule). Ruled (Ical r))) (rrule_back rule h.0)
+  tree_back (Spanned bounds low high) h = span_back bounds low high h.0.0.low_given h.0.0.high_given
+      h.0.1 h.0.2
+  tree_back (Ruled (Field rule)) h = ap (option_map (λ (r : FieldRule). Ruled (Field r)))
+      (rule_back rule)
+  tree_back (Ruled (Ical rule)) h = ap (option_map (λ (r : IcalRule). Ruled (Ical r)))
+      (rrule_back rule h.0)
   tree_back (Joined op a b) h = rw (tree_back a (first_shown h), tree_back b (other_shown h)) refl
   tree_back (Pairs a b) h = rw (tree_back a (first_shown h), tree_back b (other_shown h)) refl
   tree_back (Unary op a) h = rw (tree_back a h) refl
 
-  both_back : (t : Tree Rule) (o : Option (Tree Rule)) → IsShown t → IsShownSecond o → trees_from (record { first = written t; second = option_map written o }) ≡ Some (record { first = t; second = o })
+  both_back : (t : Tree Rule) (o : Option (Tree Rule)) → IsShown t → IsShownSecond o
+      → trees_from (record { first = written t; second = option_map written o })
+      ≡ Some (record { first = t; second = o })
   both_back t None h k = rw (tree_back t h) refl
   both_back t (Some u) h k = rw (tree_back t h, tree_back u k) refl
 
@@ -186,7 +206,8 @@ IsModestSecond (Some t) = IsModest t
 abbrev pub AreModest : Trees → Type 0
 AreModest p = IsModest p.first × IsModestSecond p.second
 
-otherwise : {A F : Type 0} (b : Bool) (f : F) (r : Result A F) (s : A) → cond b (Err f) r ≡ Ok s → (b ≡ false) × (r ≡ Ok s)
+otherwise : {A F : Type 0} (b : Bool) (f : F) (r : Result A F) (s : A) → cond b (Err f) r ≡ Ok s
+    → (b ≡ false) × (r ≡ Ok s)
 otherwise true f r s e = absurd cc
 otherwise false f r s e = (refl, e)
 
@@ -202,28 +223,40 @@ modest : (t : Tree Rule) (s : Sort) → sort_of_tree t ≡ Ok s → IsModest t
 modest t s e =
     let few = otherwise (nat_lt 1024 (nodes_of t)) faults.Nodes _ s e in
     let low = otherwise (nat_lt 128 (depth_of t)) faults.Depth _ s few.1 in
-    record { depth = not_below 128 (depth_of t) low.0; reach = not_far (not (durations_last t)) (reach_of t) (reaches_well t (judge t) s low.1) }
+    record {
+      depth = not_below 128 (depth_of t) low.0;
+      reach = not_far (not (durations_last t))
+          (reach_of t) (reaches_well t (judge t) s low.1);
+    }
 
-first_modest : (t : Tree Rule) (r : Result Sort SortFault) (o : Option (Result Sort SortFault)) → sort_of_tree t ≡ r → fault_of r o ≡ None → IsModest t
+first_modest : (t : Tree Rule) (r : Result Sort SortFault) (o : Option (Result Sort SortFault))
+    → sort_of_tree t ≡ r → fault_of r o ≡ None → IsModest t
 first_modest t (Ok s) o is e = modest t s is
 first_modest t (Err fault) o is e = absurd cc
 
-other_modest : (u : Tree Rule) (r x : Result Sort SortFault) → sort_of_tree u ≡ x → fault_of r (Some x) ≡ None → IsModest u
+other_modest : (u : Tree Rule) (r x : Result Sort SortFault) → sort_of_tree u ≡ x
+    → fault_of r (Some x) ≡ None → IsModest u
 other_modest u (Err fault) x is e = absurd cc
 other_modest u (Ok s) (Err fault) is e = absurd cc
 other_modest u (Ok s) (Ok other) is e = modest u other is
 
-second_modest : (t : Tree Rule) (o : Option (Tree Rule)) → sort_fault (record { first = t; second = o }) ≡ None → IsModestSecond o
+second_modest : (t : Tree Rule) (o : Option (Tree Rule))
+    → sort_fault (record { first = t; second = o }) ≡ None → IsModestSecond o
 second_modest t None e = tt
 second_modest t (Some u) e = other_modest u (sort_of_tree t) (sort_of_tree u) refl e
 
 pub all_modest : (p : Trees) → sort_fault p ≡ None → AreModest p
-all_modest p e = (first_modest p.first (sort_of_tree p.first) (option_map sort_of_tree p.second) refl e, second_modest p.first p.second e)
+all_modest p e = (
+  first_modest p.first (sort_of_tree p.first) (option_map sort_of_tree p.second)
+      refl e,
+  second_modest p.first p.second e,
+)
 
 printable : (t : Tree Rule) → IsShown t → IsModest t → IsPrintableForm (written t)
 printable t h modest = (has_tokens t h, rw (height_same t) modest.depth)
 
-second_printable : (o : Option (Tree Rule)) → IsShownSecond o → IsModestSecond o → IsPrintableSecond (option_map written o)
+second_printable : (o : Option (Tree Rule)) → IsShownSecond o → IsModestSecond o
+    → IsPrintableSecond (option_map written o)
 second_printable None h modest = tt
 second_printable (Some t) h modest = printable t h modest
 

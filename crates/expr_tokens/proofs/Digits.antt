@@ -38,7 +38,8 @@ most_bound n i le fits =
     let grows : most i ≤ most 13 = rw e at (most_grows i (13 - i)) in
     omega (arith, grows, most_step 12, most_twelve)
 
-pub value_step : (n : ℕ) (s : List ℕ) (i : ℕ) → i < length s → value_from n (drop i s) ≡ value_from (10 * n + (get_or s i 0 - 48)) (drop (i + 1) s)
+pub value_step : (n : ℕ) (s : List ℕ) (i : ℕ) → i < length s → value_from n (drop i s)
+    ≡ value_from (10 * n + (get_or s i 0 - 48)) (drop (i + 1) s)
 unfolding value_from
 value_step n s i lt =
     let one : drop i s ≡ get_or s i 0 ∷ drop (i + 1) s = rw add-one (drop-cons s i 0 lt) in

@@ -24,7 +24,8 @@ use Rattle.expr_tokens.proofs.Lexing.{nothing_from}
 use Rattle.expr_tokens.proofs.OneToken.{Reads, sign_read, name_read, text_read, number_read, negative_read, moment_read}
 use Rattle.expr_tokens.proofs.Stamps.{stamp_of-literal}
 
-before-append : (ts us : List Token) (read : Result (List Token) ℕ) → before ts (before us read) ≡ before (ts ++ us) read
+before-append : (ts us : List Token) (read : Result (List Token) ℕ) → before ts (before us read)
+    ≡ before (ts ++ us) read
 before-append ts us (Ok x) = ap (λ (y : List Token). Ok y) (sym (append_assoc ts us x))
 before-append ts us (Err left) = refl
 
@@ -32,19 +33,25 @@ before_none : (read : Result (List Token) ℕ) → before [] read ≡ read
 before_none (Ok x) = refl
 before_none (Err left) = refl
 
-alone-with_token : (x : Token × ℕ) (read : Found) → alone (with_token x read) ≡ before (x.0 ∷ []) (alone read)
+alone-with_token : (x : Token × ℕ) (read : Found) → alone (with_token x read)
+    ≡ before (x.0 ∷ []) (alone read)
 alone-with_token x (Ok found) = refl
 alone-with_token x (Err left) = refl
 
 pub Lexes-nothing : NothingIsRead
-Lexes-nothing rest = record { reads = λ n enough. (n, enough, sym (before_none (alone (reading_from n rest)))) }
+Lexes-nothing rest =
+    record { reads = λ n enough. (n, enough, sym (before_none (alone (reading_from n rest)))) }
 
 pub Lexes-append : PartsAreRead
 Lexes-append a b ts us rest first second = record {
   reads = λ n enough.
       let x = first.reads n (rw append_assoc at enough) in
-      let y = second.reads x.0 x.1 in
-      (y.0, y.1, rw append_assoc (x.2 ∙ ap (before ts) y.2 ∙ before-append ts us (alone (reading_from y.0 rest))));
+      let y = second.reads x.0 x.1 in (
+        y.0,
+        y.1,
+        rw append_assoc (x.2 ∙ ap (before ts) y.2
+            ∙ before-append ts us (alone (reading_from y.0 rest))),
+      );
 }
 
 pub Lexes-all : TextsAreRead
@@ -52,38 +59,59 @@ unfolding tokens_of reading_of
 Lexes-all text ts lexes =
     let enough : length (text ++ []) ≤ length text = rw (append-nil text) (omega arith) in
     let x = lexes.reads (length text) enough in
-    let read : alone (reading_from (length text) text) ≡ before ts (alone (reading_from x.0 [])) = rw (append-nil text) at x.2 in
-    read ∙ ap (λ (y : Found). before ts (alone y)) (nothing_from x.0) ∙ ap (λ (y : List Token). Ok y) (append-nil ts)
+    let read : alone (reading_from (length text) text) ≡ before ts (alone (reading_from x.0 [])) =
+    rw (append-nil text) at x.2 in
+    read ∙ ap (λ (y : Found). before ts (alone y)) (nothing_from x.0)
+    ∙ ap (λ (y : List Token). Ok y) (append-nil ts)
 
-blank_read : (n b : ℕ) (rest : List ℕ) → holds classes.Blank b ≡ true → length (b ∷ rest) ≤ n → (m : ℕ) × (length rest ≤ m) × (alone (reading_from n (b ∷ rest)) ≡ before [] (alone (reading_from m rest)))
+blank_read : (n b : ℕ) (rest : List ℕ) → holds classes.Blank b ≡ true → length (b ∷ rest) ≤ n
+    → (m : ℕ) × (length rest ≤ m)
+    × (alone (reading_from n (b ∷ rest)) ≡ before [] (alone (reading_from m rest)))
 unfolding reading_from
 blank_read zero b rest blank enough = absurd (omega arith)
-blank_read (suc n) b rest blank enough = (n, omega arith, rw blank (sym (before_none (alone (reading_from n rest)))))
+blank_read (suc n) b rest blank enough =
+    (n, omega arith, rw blank (sym (before_none (alone (reading_from n rest)))))
 
 pub Lexes-space : SpacesAreRead
 Lexes-space rest = record { reads = λ n enough. blank_read n 32 rest refl enough }
 
 -- one token
 
-token_read : (n b : ℕ) (more rest : List ℕ) (t : Token) → holds classes.Blank b ≡ false → token_at b (more ++ rest) ≡ Some (t, rest) → length (b ∷ more ++ rest) ≤ n
-    → (m : ℕ) × (length rest ≤ m) × (alone (reading_from n (b ∷ more ++ rest)) ≡ before (t ∷ []) (alone (reading_from m rest)))
+token_read : (n b : ℕ) (more rest : List ℕ) (t : Token) → holds classes.Blank b ≡ false
+    → token_at b (more ++ rest) ≡ Some (t, rest) → length (b ∷ more ++ rest) ≤ n
+    → (m : ℕ) × (length rest ≤ m) × (alone (reading_from n (b ∷ more ++ rest))
+    ≡ before (t ∷ []) (alone (reading_from m rest)))
 unfolding reading_from
 token_read zero b more rest t blank read enough = absurd (omega arith)
-token_read (suc n) b more rest t blank read enough =
-    (n, omega (arith, length-append more rest), rw (blank, read) (alone-with_token (t, suc (length (more ++ rest))) (reading_from n rest)))
+token_read (suc n) b more rest t blank read enough = (
+  n,
+  omega (arith, length-append more rest),
+  rw (blank, read)
+      (alone-with_token (t, suc (length (more ++ rest))) (reading_from n rest)),
+)
 
-Lexes-token : (bytes : List ℕ) (t : Token) (rest : List ℕ) → Reads bytes t rest → Lexes bytes (t ∷ []) rest
-Lexes-token bytes t rest reads = record { reads = λ n enough. rw reads.splits (token_read n reads.first reads.others rest t reads.no_blank reads.read (rw reads.splits at enough)) }
+Lexes-token : (bytes : List ℕ) (t : Token) (rest : List ℕ) → Reads bytes t rest
+    → Lexes bytes (t ∷ []) rest
+Lexes-token bytes t rest reads =
+    record {
+      reads =
+          λ n enough. rw reads.splits (token_read n reads.first reads.others rest t reads.no_blank
+          reads.read (rw reads.splits at enough));
+    }
 
 pub Lexes-sign : SignsAreRead
 Lexes-sign b t rest is stop = Lexes-token (b ∷ []) t rest (sign_read b t rest is stop)
 
 pub Lexes-string : StringsAreRead
-Lexes-string quoted rest each short = Lexes-token (34 ∷ quoted ++ 34 ∷ []) (tokens.Text quoted) rest (text_read quoted rest each short)
+Lexes-string quoted rest each short = Lexes-token (34 ∷ quoted ++ 34 ∷ []) (tokens.Text quoted) rest
+    (text_read quoted rest each short)
 
 -- a name, with no byte of a name behind it
-Lexes-name : (b : ℕ) (more rest : List ℕ) → holds classes.Letter b ≡ true → list_all (holds classes.Name) more ≡ true → passes_first (holds classes.Name) rest ≡ false → Lexes (b ∷ more) (named (b ∷ more) (word_of (b ∷ more)) ∷ []) rest
-Lexes-name b more rest letter each stop = Lexes-token (b ∷ more) (named (b ∷ more) (word_of (b ∷ more))) rest (name_read b more rest letter each stop)
+Lexes-name : (b : ℕ) (more rest : List ℕ) → holds classes.Letter b ≡ true
+    → list_all (holds classes.Name) more ≡ true → passes_first (holds classes.Name) rest ≡ false
+    → Lexes (b ∷ more) (named (b ∷ more) (word_of (b ∷ more)) ∷ []) rest
+Lexes-name b more rest letter each stop = Lexes-token (b ∷ more)
+    (named (b ∷ more) (word_of (b ∷ more))) rest (name_read b more rest letter each stop)
 
 abbrev first_of : List ℕ → ℕ
 first_of [] = 0
@@ -127,11 +155,19 @@ module _ (forms : ShapedTextsHaveForms) (fronts : FrontsAreLongest) (shapes_end 
   pub Lexes-number : NumbersAreRead
   Lexes-number (pos n) rest short stop =
       let value : value_from 0 (decimal n) ≡ n = digits_value-decimal own n (omega arith) in
-      rw value at (Lexes-token (decimal n) (tokens.Number (pos (value_from 0 (decimal n)))) rest (number_read forms fronts shapes_end (decimal n) rest (decimal_digits n short) stop))
+      rw value at (Lexes-token (decimal n) (tokens.Number (pos (value_from 0 (decimal n)))) rest
+      (number_read forms fronts shapes_end (decimal n) rest (decimal_digits n short) stop))
   Lexes-number (negsuc n) rest short stop =
-      let value : value_from 0 (decimal (suc n)) ≡ suc n = digits_value-decimal own (suc n) (omega arith) in
-      rw (value, negative n) at (Lexes-token (45 ∷ decimal (suc n)) (tokens.Number (with_sign true (value_from 0 (decimal (suc n))))) rest (negative_read forms fronts shapes_end (decimal (suc n)) rest (decimal_digits (suc n) short) stop))
+      let value : value_from 0 (decimal (suc n)) ≡ suc n = digits_value-decimal own (suc n)
+      (omega arith) in
+      rw (value, negative n) at
+      (Lexes-token (45 ∷ decimal (suc n))
+      (tokens.Number (with_sign true (value_from 0 (decimal (suc n))))) rest
+      (negative_read forms fronts shapes_end (decimal (suc n)) rest (decimal_digits (suc n) short)
+      stop))
 
   pub Lexes-moment : LiteralsAreShaped → LiteralsTellMomentsApart → MomentsAreRead
   Lexes-moment shaped apart t absolute rest within stop =
-      rw (stamp_of-literal apart t absolute within) at (Lexes-token (literal_of t absolute) (tokens.Moment (stamp_of (literal_of t absolute))) rest (moment_read forms fronts shapes_end (literal_of t absolute) rest (shaped t absolute) stop))
+      rw (stamp_of-literal apart t absolute within) at
+      (Lexes-token (literal_of t absolute) (tokens.Moment (stamp_of (literal_of t absolute))) rest
+      (moment_read forms fronts shapes_end (literal_of t absolute) rest (shaped t absolute) stop))

@@ -34,16 +34,19 @@ module _ (r : FieldRule) (s : Sieve) (is : IsSieveOfRule r s) where
   frames_same : frame_of_rule s ≡ frame_of_field r
   frames_same =
       ap (λ u. framed_everywhere (in_width (period_of_rule (units_of u) s.interval))) is.unit
-      ∙ ap (λ k. framed_everywhere (in_width (period_of_rule (units_of (field_unit r)) k))) is.interval
+      ∙ ap (λ k. framed_everywhere (in_width (period_of_rule (units_of (field_unit r)) k)))
+      is.interval
 
 abbrev meant : (ℤ → Bool) → (ℤ → Bool) → Option Frame → Meaning
 meant f g o = record { member = f; candidate = g; frame = o }
 
-pub means_same : (r : FieldRule) (leaf : Guarded FieldLeaf) → IsSieveOfRule r leaf.inner.sieve → IsWholeSieve leaf.inner.sieve → meaning_of_leaf leaf ≡ meaning_of_field r
+pub means_same : (r : FieldRule) (leaf : Guarded FieldLeaf) → IsSieveOfRule r leaf.inner.sieve
+    → IsWholeSieve leaf.inner.sieve → meaning_of_leaf leaf ≡ meaning_of_field r
 means_same r leaf is whole =
     let s = leaf.inner.sieve in
     let members : meets_rule s ≡ has_field r = fun_ext (members_same r s is) in
-    let candidates : is_candidate s ≡ is_field_candidate r = fun_ext (candidates_same r s is whole) in
+    let candidates : is_candidate s ≡ is_field_candidate r =
+    fun_ext (candidates_same r s is whole) in
     ap (λ f. meant f (is_candidate s) (frame_of_rule s)) members
     ∙ ap (λ g. meant (has_field r) g (frame_of_rule s)) candidates
     ∙ ap (meant (has_field r) (is_field_candidate r)) (frames_same r s is)

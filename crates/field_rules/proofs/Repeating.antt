@@ -22,7 +22,8 @@ interval-positive n e =
     let least : pos 1 ≤ℤ n = grind (arith, ints) in
     omega (arith, ints, least)
 
-pub checked_rules_repeat : RulesComeRound → FieldRulesRepeat → FieldIntervalFits → CheckedRulesRepeat
+pub checked_rules_repeat : RulesComeRound → FieldRulesRepeat → FieldIntervalFits
+    → CheckedRulesRepeat
 checked_rules_repeat round repeats interval r ok = by_period (in_width (period_of_rule n k)) refl
   where
     n : ℕ
@@ -39,10 +40,12 @@ checked_rules_repeat round repeats interval r ok = by_period (in_width (period_o
         let (m, j, period, whole) = (round n k some).1 in
         ap (λ p. has_field r (t +ℤ pos p)) period ∙ repeats r t m j some whole
 
-    by_period : (o : Option ℕ) → o ≡ in_width (period_of_rule n k) → HasPeriod (framed_everywhere o) × RepeatsIfFramed (moments_in (has_field r)) (framed_everywhere o)
+    by_period : (o : Option ℕ) → o ≡ in_width (period_of_rule n k) → HasPeriod (framed_everywhere o)
+        × RepeatsIfFramed (moments_in (has_field r)) (framed_everywhere o)
     by_period None e = (tt, tt)
     by_period (Some p) e =
         let is = in_width-is (period_of_rule n k) p e in (
           (omega (arith, is.0, (round n k some).0), is.1),
-          repeats-by (has_field r) _ (λ t. ap (λ x. has_field r (t +ℤ pos x)) is.0 ∙ period-later t),
+          repeats-by (has_field r) _ (λ t. ap (λ x. has_field r (t +ℤ pos x)) is.0
+              ∙ period-later t),
         )

@@ -29,7 +29,8 @@ greatest_up_to-finds : (n a b g : ℕ) → IsGcd a b g → 0 < g → g ≤ n →
 unfolding greatest_up_to
 greatest_up_to-finds zero a b g h positive le = absurd (omega arith)
 greatest_up_to-finds (suc n) a b g h positive le =
-    elim (a % suc n == 0 && b % suc n == 0) as (λ t. (a % suc n == 0 && b % suc n == 0) ≡ t → cond t (suc n) (greatest_up_to n a b) ≡ g) [
+    elim (a % suc n == 0 && b % suc n == 0) as (λ t. (a % suc n == 0 && b % suc n == 0) ≡ t
+    → cond t (suc n) (greatest_up_to n a b) ≡ g) [
       | true ↦ λ e.
           let parts = and_parts (a % suc n == 0) (b % suc n == 0) e in
           let most : suc n ≤ g = le_from_IsGcd a b g (suc n) h positive
@@ -37,7 +38,8 @@ greatest_up_to-finds (suc n) a b g h positive le =
           (dvd_of_mod-eq-zero (suc n) (eqb-true (b % suc n) 0 parts.1)) in
           omega arith
       | false ↦ λ e. elim (cases_order g (suc n)) [
-        | inl here ↦ absurd (both_ways (a % suc n == 0 && b % suc n == 0) e (divides_both a b g (suc n) h here))
+        | inl here ↦ absurd (both_ways (a % suc n == 0 && b % suc n == 0) e
+            (divides_both a b g (suc n) h here))
         | inr other ↦ elim other [
           | inl below ↦ greatest_up_to-finds n a b g h positive (omega arith)
           | inr above ↦ absurd (omega arith)
@@ -76,14 +78,17 @@ greatest_common-IsGcd a b =
           let r = some_gcd b a b (omega arith) in
           let g : ℕ = r.0 in
           let h : IsGcd a b g = r.1 in
-          subst P (sym (greatest_up_to-finds (a + b) a b g h (gcd_positive a b g h (omega arith)) (gcd_at_most a b g h (omega arith)))) h
+          subst P (sym (greatest_up_to-finds (a + b) a b g h (gcd_positive a b g h (omega arith))
+          (gcd_at_most a b g h (omega arith)))) h
     ]
 
 pub greatest_common-is : (a b g : ℕ) → IsGcd a b g → g ≡ greatest_common a b
-greatest_common-is a b g h = same_from_IsGcd a b g (greatest_common a b) h (greatest_common-IsGcd a b)
+greatest_common-is a b g h = same_from_IsGcd a b g (greatest_common a b) h
+    (greatest_common-IsGcd a b)
 
 pub greatest_common-positive : (a b : ℕ) → 0 < a + b → 0 < greatest_common a b
-greatest_common-positive a b some = gcd_positive a b (greatest_common a b) (greatest_common-IsGcd a b) some
+greatest_common-positive a b some = gcd_positive a b (greatest_common a b)
+    (greatest_common-IsGcd a b) some
 
 -- a product divided by a divisor of one factor
 pub div-of_left : (a b g : ℕ) → 0 < g → g ∣ a → a * b / g ≡ a / g * b
@@ -100,12 +105,14 @@ div-of_right a b g positive h =
 pub least_common-left : (a b : ℕ) → 0 < a → least_common a b ≡ a / greatest_common a b * b
 unfolding least_common
 least_common-left a b some =
-    div-of_left a b (greatest_common a b) (greatest_common-positive a b (omega arith)) (greatest_common-IsGcd a b).0
+    div-of_left a b (greatest_common a b) (greatest_common-positive a b (omega arith))
+    (greatest_common-IsGcd a b).0
 
 pub least_common-right : (a b : ℕ) → 0 < a → least_common a b ≡ a * (b / greatest_common a b)
 unfolding least_common
 least_common-right a b some =
-    div-of_right a b (greatest_common a b) (greatest_common-positive a b (omega arith)) (greatest_common-IsGcd a b).1
+    div-of_right a b (greatest_common a b) (greatest_common-positive a b (omega arith))
+    (greatest_common-IsGcd a b).1
 
 divisor_positive : (d a : ℕ) → d ∣ a → 0 < a → 0 < d
 divisor_positive d a h some = elim (cases_eq d 0) [
@@ -120,7 +127,8 @@ pub least_common-positive : (a b : ℕ) → 0 < a → 0 < b → 0 < least_common
 least_common-positive a b some other =
     let g = greatest_common a b in
     let P : ℕ → Type 0 = λ z. b / g ∣ z in
-    let divides : b / g ∣ b = subst P (mul-div_cancel' g (greatest_common-IsGcd a b).1) (dvd-mul_left (b / g) g) in
+    let divides : b / g ∣ b = subst P (mul-div_cancel' g (greatest_common-IsGcd a b).1)
+    (dvd-mul_left (b / g) g) in
     let part : 0 < b / g = divisor_positive (b / g) b divides other in
     rw (least_common-right a b some) (omega (arith, le-mul_of_pos_right a part))
 
@@ -139,13 +147,16 @@ least_common-divides a b n some other x y =
     let b_divides : b ∣ m = common.2 b y (dvd-mul_left b a) in
     let P : ℕ → Type 0 = λ z. b * d ∣ z in
     let Q : ℕ → Type 0 = λ z. a * d ∣ z in
-    let left : d ∣ a = dvd_of_mul-dvd-mul_left d other (subst P (whole ∙ mul_comm a b) (mul-dvd-mul_right b b_divides d)) in
-    let right : d ∣ b = dvd_of_mul-dvd-mul_left d some (subst Q whole (mul-dvd-mul_right a a_divides d)) in
+    let left : d ∣ a = dvd_of_mul-dvd-mul_left d other
+    (subst P (whole ∙ mul_comm a b) (mul-dvd-mul_right b b_divides d)) in
+    let right : d ∣ b = dvd_of_mul-dvd-mul_left d some
+    (subst Q whole (mul-dvd-mul_right a a_divides d)) in
     let divides : d ∣ g = is.2 d left right in
     let l = a * b / g in
     let product : g * l ≡ a * b = mul-div_cancel' g (dvd_trans g is.0 (dvd-mul_right a b)) in
     let R : ℕ → Type 0 = λ z. l * d ∣ z in
-    let multiple : l * d ∣ m * d = subst R (mul_comm l g ∙ product ∙ sym whole) (mul-dvd-mul_left d l divides) in
+    let multiple : l * d ∣ m * d = subst R (mul_comm l g ∙ product ∙ sym whole)
+    (mul-dvd-mul_left d l divides) in
     dvd_trans l (dvd_of_mul-dvd-mul_right l (divisor_positive d a left some) multiple) common.0
 
 pub least_common-IsLeastCommon : (a b : ℕ) → 1 ≤ a → 1 ≤ b → IsLeastCommon a b (least_common a b)
@@ -157,16 +168,19 @@ least_common-IsLeastCommon a b some other = record {
 }
 
 -- what the code computes: one factor divided first
-pub in_width-least_common : (a b g : ℕ) → 1 ≤ a → g ≡ greatest_common a b → in_width (a / g * b) ≡ in_width (least_common a b)
+pub in_width-least_common : (a b g : ℕ) → 1 ≤ a → g ≡ greatest_common a b → in_width (a / g * b)
+    ≡ in_width (least_common a b)
 in_width-least_common a b g some e =
     ap in_width (ap (λ d. a / d * b) e ∙ sym (least_common-left a b some))
 
-pub in_width-period_of_rule : (units interval g : ℕ) → 1 ≤ interval → g ≡ greatest_common interval units → in_width (G * (interval / g)) ≡ in_width (period_of_rule units interval)
+pub in_width-period_of_rule : (units interval g : ℕ) → 1 ≤ interval → g ≡ greatest_common interval
+    units → in_width (G * (interval / g)) ≡ in_width (period_of_rule units interval)
 unfolding period_of_rule
 in_width-period_of_rule units interval g some e =
     ap in_width (ap (λ d. G * (interval / d)) e
     ∙ sym (div-of_right G interval (greatest_common interval units)
-    (greatest_common-positive interval units (omega arith)) (greatest_common-IsGcd interval units).0))
+    (greatest_common-positive interval units (omega arith))
+    (greatest_common-IsGcd interval units).0))
 
 pub gcd_some : (a b g : ℕ) → 1 ≤ a → g ≡ greatest_common a b → 0 < g
 gcd_some a b g some e =
@@ -174,7 +188,8 @@ gcd_some a b g some e =
     omega arith
 
 -- the period of a rule is m times 400 years, after which the interval has come round j times
-pub period_of_rule-round : (units interval : ℕ) → 1 ≤ interval → (1 ≤ period_of_rule units interval) × ((m : ℕ) × (j : ℕ) × (period_of_rule units interval ≡ m * G) × (m * units ≡ j * interval))
+pub period_of_rule-round : (units interval : ℕ) → 1 ≤ interval → (1 ≤ period_of_rule units interval)
+    × ((m : ℕ) × (j : ℕ) × (period_of_rule units interval ≡ m * G) × (m * units ≡ j * interval))
 unfolding period_of_rule
 period_of_rule-round units interval some =
     let g = greatest_common interval units in
@@ -184,8 +199,10 @@ period_of_rule-round units interval some =
     let j = units / g in
     let of_interval : g * m ≡ interval = mul-div_cancel' g gcd.0 in
     let of_units : g * j ≡ units = mul-div_cancel' g gcd.1 in
-    let period : G * interval / g ≡ m * G = div-of_right G interval g positive gcd.0 ∙ mul_comm G m in
-    let round : m * units ≡ j * interval = sym (ap (λ x. m * x) of_units) ∙ grind arith ∙ ap (λ x. j * x) of_interval in
+    let period : G * interval / g ≡ m * G = div-of_right G interval g positive gcd.0
+    ∙ mul_comm G m in
+    let round : m * units ≡ j * interval = sym (ap (λ x. m * x) of_units) ∙ grind arith
+    ∙ ap (λ x. j * x) of_interval in
     let more : 0 < m = elim (cases_eq m 0) [
       | inl none ↦ absurd (let zero : g * m ≡ 0 = rw none (omega arith) in omega arith)
       | inr there ↦ omega arith

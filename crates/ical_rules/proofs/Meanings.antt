@@ -27,16 +27,19 @@ use Rattle.ical_rules.specs.declared.outcome.Settled.TheVariants.{Last, Open}
 use Rattle.ical_rules.proofs.LastCounted.{has_ical-split}
 
 -- another COUNT changes no test
-parts-alike : (count : Option ℤ) (r : IcalRule) (t : ℤ) → meets_parts r t ≡ meets_parts (with_count count r) t
+parts-alike : (count : Option ℤ) (r : IcalRule) (t : ℤ) → meets_parts r t
+    ≡ meets_parts (with_count count r) t
 unfolding meets_parts filled meets_by_date meets_by_day meets_by_time
 parts-alike count r t = refl
 
-uncounted-alike : (count : Option ℤ) (r : IcalRule) (t : ℤ) → has_uncounted r t ≡ has_uncounted (with_count count r) t
+uncounted-alike : (count : Option ℤ) (r : IcalRule) (t : ℤ) → has_uncounted r t
+    ≡ has_uncounted (with_count count r) t
 unfolding has_uncounted meets_set_pos meets_parts filled meets_by_date meets_by_day meets_by_time
 uncounted-alike count r t = refl
 
 -- what is settled is the last member
-last-alike : (r : IcalRule) (settled : Settled) (t : ℤ) → IsSettled r settled → is_by (last_in settled) t ≡ is_up_to (last_counted r) t
+last-alike : (r : IcalRule) (settled : Settled) (t : ℤ) → IsSettled r settled
+    → is_by (last_in settled) t ≡ is_up_to (last_counted r) t
 last-alike r (Last last) t e = rw e refl
 last-alike r Open t e = rw e refl
 
@@ -57,7 +60,8 @@ regroup true true false l m is = none l m
     none l false = refl
 
 -- where t isn't before DTSTART it isn't before the working range
-rebound : (w e a b l : Bool) → (a ≡ true → w ≡ true) → (a && ((e && b) && l)) ≡ ((((w && e) && a) && b) && l)
+rebound : (w e a b l : Bool) → (a ≡ true → w ≡ true) → (a && ((e && b) && l))
+    ≡ ((((w && e) && a) && b) && l)
 rebound w e false b l within = none (w && e) b l
   where
     none : (x b l : Bool) → false ≡ (((x && false) && b) && l)
@@ -67,12 +71,16 @@ rebound true true true b l within = refl
 rebound true false true b l within = refl
 rebound false e true b l within = absurd (let no : false ≡ true = within refl in cc)
 
-start-within : (start t : ℤ) → IsCalendarMoment start → int_le start t ≡ true → int_le (LOW -ℤ REACH) t ≡ true
+start-within : (start t : ℤ) → IsCalendarMoment start → int_le start t ≡ true
+    → int_le (LOW -ℤ REACH) t ≡ true
 start-within start t here e = grind (arith, ints, here.0)
 
-module _ (members : SievesHaveRules) (tests : SievesTestRules) (r : IcalRule) (count : Option ℤ) (settled : Settled) (s : Sieve)
-    (is : IsSieveOf r s) (here : IsCalendarMoment (start_of r)) (some : (n : ℤ) → count ≡ Some n → pos 1 ≤ℤ n)
-    (last : IsSettled (with_count count r) settled) (ends : (t : ℤ) → int_le t s.last.0 ≡ ends_by r.until (last_in settled) t) where
+module _ (members : SievesHaveRules) (tests : SievesTestRules) (r : IcalRule) (count : Option ℤ)
+    (settled : Settled) (s : Sieve)
+    (is : IsSieveOf r s) (here : IsCalendarMoment (start_of r)) (some : (n : ℤ) → count ≡ Some n
+    → pos 1 ≤ℤ n)
+    (last : IsSettled (with_count count r) settled) (ends : (t : ℤ) → int_le t s.last.0
+    ≡ ends_by r.until (last_in settled) t) where
   abbrev rule : IcalRule
   rule = with_count count r
 
@@ -85,16 +93,20 @@ module _ (members : SievesHaveRules) (tests : SievesTestRules) (r : IcalRule) (c
   counted-same t =
       let same : has_until s r.until ≡ has_uncounted rule = fun_ext until-same in
       ap (λ f. f t && is_within_count count (count_to f s.first.0 t)) same
-      ∙ ap (λ start. has_uncounted rule t && is_within_count count (count_to (has_uncounted rule) start t)) is.begins
+      ∙ ap (λ start. has_uncounted rule t && is_within_count count
+      (count_to (has_uncounted rule) start t)) is.begins
 
   -- and in the working range those of the sieve
-  sieve-split : (t : ℤ) → IsWorkingMoment t → has s t ≡ (has_until s r.until t && is_up_to (last_counted rule) t)
+  sieve-split : (t : ℤ) → IsWorkingMoment t → has s t
+      ≡ (has_until s r.until t && is_up_to (last_counted rule) t)
   unfolding has is_between has_until
   sieve-split t working =
       let within : int_le t (HIGH +ℤ REACH) ≡ true = grind (arith, ints, working.1) in
       ap (λ b. (int_le s.first.0 t && b) && meets_rule s t) (ends t)
-      ∙ regroup (int_le s.first.0 t) (int_le t (HIGH +ℤ REACH)) (is_by r.until t) (is_by (last_in settled) t) (meets_rule s t) within
-      ∙ ap (λ b. ((int_le s.first.0 t && meets_rule s t) && is_by r.until t) && b) (last-alike rule settled t last)
+      ∙ regroup (int_le s.first.0 t) (int_le t (HIGH +ℤ REACH)) (is_by r.until t)
+      (is_by (last_in settled) t) (meets_rule s t) within
+      ∙ ap (λ b. ((int_le s.first.0 t && meets_rule s t) && is_by r.until t) && b)
+      (last-alike rule settled t last)
 
   working-same : (t : ℤ) → IsWorkingMoment t → has s t ≡ has_counted s r.until count t
   working-same t working =
@@ -108,11 +120,15 @@ module _ (members : SievesHaveRules) (tests : SievesTestRules) (r : IcalRule) (c
   unfolding is_candidate is_between is_mark is_ical_candidate
   candidates-same t =
       let first : int_le s.first.0 t ≡ int_le (start_of r) t = ap (λ z. int_le z t) is.begins in
-      let mark : (is_midnight t || meets_tests s t) ≡ (is_midnight t || meets_parts rule t) = ap (λ b. is_midnight t || b) (tests r s is t ∙ parts-alike count r t) in
-      let bounds : (int_le s.first.0 t && int_le t s.last.0) ≡ (is_working t && int_le (start_of r) t && is_by r.until t && is_up_to (last_counted rule) t)
+      let mark : (is_midnight t || meets_tests s t) ≡ (is_midnight t || meets_parts rule t) =
+      ap (λ b. is_midnight t || b) (tests r s is t ∙ parts-alike count r t) in
+      let bounds : (int_le s.first.0 t && int_le t s.last.0)
+      ≡ (is_working t && int_le (start_of r) t && is_by r.until t && is_up_to (last_counted rule) t)
       = ap (λ b. b && int_le t s.last.0) first ∙ ap (λ b. int_le (start_of r) t && b) (ends t)
-      ∙ ap (λ b. int_le (start_of r) t && (int_le t (HIGH +ℤ REACH) && is_by r.until t && b)) (last-alike rule settled t last)
-      ∙ rebound (int_le (LOW -ℤ REACH) t) (int_le t (HIGH +ℤ REACH)) (int_le (start_of r) t) (is_by r.until t) (is_up_to (last_counted rule) t) (start-within (start_of r) t here) in
+      ∙ ap (λ b. int_le (start_of r) t && (int_le t (HIGH +ℤ REACH) && is_by r.until t && b))
+      (last-alike rule settled t last)
+      ∙ rebound (int_le (LOW -ℤ REACH) t) (int_le t (HIGH +ℤ REACH)) (int_le (start_of r) t)
+      (is_by r.until t) (is_up_to (last_counted rule) t) (start-within (start_of r) t here) in
       both bounds mark
     where
       both : {a b c d : Bool} → a ≡ b → c ≡ d → (a && c) ≡ (b && d)
@@ -128,10 +144,14 @@ abbrev meant : (ℤ → Bool) → (ℤ → Bool) → Option Frame → Meaning
 meant f g o = record { member = f; candidate = g; frame = o }
 
 -- a leaf with these parts means it
-pub leaf-means : (r : IcalRule) (leaf : Guarded IcalLeaf) (s : Sieve) (until : Option Moment) (count : Option ℤ) (frame : Option Frame)
-    → leaf.inner.sieve ≡ s → leaf.inner.until ≡ until → leaf.inner.count ≡ count → leaf.inner.frame ≡ frame
-    → has_counted s until count ≡ has_ical r → is_candidate s ≡ is_ical_candidate r → frame ≡ frame_of_ical r → meaning_of_leaf leaf ≡ meaning_of_ical r
-leaf-means r leaf s until count frame is_sieve is_until is_count is_frame members candidates framed =
+pub leaf-means : (r : IcalRule) (leaf : Guarded IcalLeaf) (s : Sieve) (until : Option Moment)
+    (count : Option ℤ) (frame : Option Frame)
+    → leaf.inner.sieve ≡ s → leaf.inner.until ≡ until → leaf.inner.count ≡ count → leaf.inner.frame
+    ≡ frame
+    → has_counted s until count ≡ has_ical r → is_candidate s ≡ is_ical_candidate r → frame
+    ≡ frame_of_ical r → meaning_of_leaf leaf ≡ meaning_of_ical r
+leaf-means r leaf s until count frame is_sieve is_until is_count is_frame members candidates
+    framed =
     let inner = leaf.inner in
     ap (λ x. meant (has_counted x inner.until inner.count) (is_candidate x) inner.frame) is_sieve
     ∙ ap (λ x. meant (has_counted s x inner.count) (is_candidate s) inner.frame) is_until

@@ -17,11 +17,14 @@ pub later-more : (t : ℤ) (m p : ℕ) → t +ℤ pos (suc m * p) ≡ (t +ℤ po
 later-more t m p = omega (arith, ints)
 
 -- the number of the unit after m times 400 years
-pub unit_of-cycles : (u : TimeUnit) (t : ℤ) (m : ℕ) → unit_of u (t +ℤ pos (m * G)) ≡ unit_of u t +ℤ pos (m * units_of u)
-unit_of-cycles u t zero = ap (unit_of u) (later-none t G) ∙ sym (later-none (unit_of u t) (units_of u))
+pub unit_of-cycles : (u : TimeUnit) (t : ℤ) (m : ℕ) → unit_of u (t +ℤ pos (m * G))
+    ≡ unit_of u t +ℤ pos (m * units_of u)
+unit_of-cycles u t zero = ap (unit_of u) (later-none t G)
+    ∙ sym (later-none (unit_of u t) (units_of u))
 unit_of-cycles u t (suc m) =
     ap (unit_of u) (later-more t m G) ∙ unit_of-cycle u (t +ℤ pos (m * G))
-    ∙ ap (λ z. z +ℤ pos (units_of u)) (unit_of-cycles u t m) ∙ sym (later-more (unit_of u t) m (units_of u))
+    ∙ ap (λ z. z +ℤ pos (units_of u)) (unit_of-cycles u t m)
+    ∙ sym (later-more (unit_of u t) m (units_of u))
 
 -- a multiple of the interval changes nothing
 lifted : (z : ℤ) (n : ℕ) → 0 < n → (k : ℕ) × (m : ℕ) × (z +ℤ pos (k * n) ≡ pos m)
@@ -36,8 +39,10 @@ divides-multiple n z j some =
     let found = lifted z n some in
     let k = found.0 in
     let m = found.1 in
-    let place : (z +ℤ pos (j * n)) +ℤ pos (k * n) ≡ pos (m + j * n) = omega (arith, ints, found.2) in
+    let place : (z +ℤ pos (j * n)) +ℤ pos (k * n) ≡ pos (m + j * n) =
+    omega (arith, ints, found.2) in
     let there = int_rem_euclid_is (z +ℤ pos (j * n)) (pos n) n k (m + j * n) some refl place in
     let here = int_rem_euclid_is z (pos n) n k m some refl found.2 in
-    let same : int_rem_euclid (z +ℤ pos (j * n)) (pos n) ≡ int_rem_euclid z (pos n) = there ∙ ap pos (add-mul-mod_self_right m j n) ∙ sym here in
+    let same : int_rem_euclid (z +ℤ pos (j * n)) (pos n) ≡ int_rem_euclid z (pos n) = there
+    ∙ ap pos (add-mul-mod_self_right m j n) ∙ sym here in
     ap (λ r. unsigned_abs r == 0) same

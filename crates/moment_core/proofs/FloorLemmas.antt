@@ -10,12 +10,17 @@ unsigned_abs-parts (pos n) = omega arith
 unsigned_abs-parts (negsuc n) = omega arith
 
 -- the quotient q of a by k has k * q ≤ a < k * q + k
-pub int_div_euclid-parts : (a : ℤ) (k : ℕ) → 0 < k → (up (int_div_euclid a (pos k)) * k + down a ≤ down (int_div_euclid a (pos k)) * k + up a) × (down (int_div_euclid a (pos k)) * k + up a < up (int_div_euclid a (pos k)) * k + down a + k)
+pub int_div_euclid-parts : (a : ℤ) (k : ℕ) → 0 < k
+    → (up (int_div_euclid a (pos k)) * k + down a ≤ down (int_div_euclid a (pos k)) * k + up a)
+    × (down (int_div_euclid a (pos k)) * k + up a < up (int_div_euclid a (pos k)) * k + down a + k)
 int_div_euclid-parts (pos a) k h = omega arith
 int_div_euclid-parts (negsuc a) k h = omega arith
 
 -- and the remainder is what that leaves
-pub int_rem_euclid-parts : (a : ℤ) (k : ℕ) → 0 < k → (up (int_rem_euclid a (pos k)) + up (int_div_euclid a (pos k)) * k + down a ≡ down (int_div_euclid a (pos k)) * k + up a) × (down (int_rem_euclid a (pos k)) ≡ 0) × (up (int_rem_euclid a (pos k)) < k)
+pub int_rem_euclid-parts : (a : ℤ) (k : ℕ) → 0 < k
+    → (up (int_rem_euclid a (pos k)) + up (int_div_euclid a (pos k)) * k + down a
+    ≡ down (int_div_euclid a (pos k)) * k + up a) × (down (int_rem_euclid a (pos k)) ≡ 0)
+    × (up (int_rem_euclid a (pos k)) < k)
 int_rem_euclid-parts (pos a) k h = omega arith
 int_rem_euclid-parts (negsuc a) k h = omega arith
 

@@ -42,15 +42,18 @@ same-steps Back p q m n x y = omega (arith, ints)
 pub seen-zero : (set : ℤ → Bool) (dir : Dir) (p : ℤ) → seen set dir p 0 ≡ set p
 seen-zero set dir p = ap set (ahead-zero dir p)
 
-pub seen-ahead : (set : ℤ → Bool) (dir : Dir) (p : ℤ) (m n : ℕ) → seen set dir (ahead dir p m) n ≡ seen set dir p (m + n)
+pub seen-ahead : (set : ℤ → Bool) (dir : Dir) (p : ℤ) (m n : ℕ) → seen set dir (ahead dir p m) n
+    ≡ seen set dir p (m + n)
 seen-ahead set dir p m n = ap set (ahead-ahead dir p m n)
 
 -- what lies n steps past p, seen from p and from there
-pub seen-on : (set : ℤ → Bool) (dir : Dir) (p q : ℤ) (m n : ℕ) → q ≡ ahead dir p m → seen set dir q n ≡ seen set dir p (m + n)
+pub seen-on : (set : ℤ → Bool) (dir : Dir) (p q : ℤ) (m n : ℕ) → q ≡ ahead dir p m
+    → seen set dir q n ≡ seen set dir p (m + n)
 seen-on set dir p q m n e = ap (λ z. seen set dir z n) e ∙ seen-ahead set dir p m n
 
 -- a position is the moment at or before it, or the open second after that one
-pub halves : (p : ℤ) → (position_of (moment_of p) ≤ℤ p) × (p ≤ℤ (position_of (moment_of p) +ℤ pos 1))
+pub halves : (p : ℤ) → (position_of (moment_of p) ≤ℤ p)
+    × (p ≤ℤ (position_of (moment_of p) +ℤ pos 1))
 halves (pos n) = (omega (arith, ints), omega (arith, ints))
 halves (negsuc n) = (omega (arith, ints), omega (arith, ints))
 
@@ -88,16 +91,22 @@ pub calendar_works : (t : ℤ) → IsCalendarMoment t → IsWorkingMoment t
 calendar_works t here = (omega (arith, ints, here.0), omega (arith, ints, here.1))
 
 -- a set of moments is the same n seconds later, where its test is
-even-later : (p : ℤ) (n : ℕ) → int_eq (position_of (moment_of (p +ℤ pos (2 * n)))) (p +ℤ pos (2 * n)) ≡ int_eq (position_of (moment_of p)) p
+even-later : (p : ℤ) (n : ℕ) → int_eq (position_of (moment_of (p +ℤ pos (2 * n))))
+    (p +ℤ pos (2 * n)) ≡ int_eq (position_of (moment_of p)) p
 even-later p n =
-    let place : position_of (moment_of (p +ℤ pos (2 * n))) ≡ position_of (moment_of p) +ℤ pos (2 * n) = omega (arith, floor_arith) in
+    let place : position_of (moment_of (p +ℤ pos (2 * n))) ≡ position_of (moment_of p) +ℤ pos
+    (2 * n) = omega (arith, floor_arith) in
     ap (λ z. int_eq z (p +ℤ pos (2 * n))) place ∙ int_eq-same (position_of (moment_of p)) p (2 * n)
 
-pub moments_in-later : (has : ℤ → Bool) (p : ℤ) (n : ℕ) → ((t : ℤ) → position_of t ≡ p → has (t +ℤ pos n) ≡ has t) → moments_in has (p +ℤ pos (2 * n)) ≡ moments_in has p
+pub moments_in-later : (has : ℤ → Bool) (p : ℤ) (n : ℕ)
+    → ((t : ℤ) → position_of t ≡ p → has (t +ℤ pos n) ≡ has t) → moments_in has (p +ℤ pos (2 * n))
+    ≡ moments_in has p
 moments_in-later has p n same = elim (cases_Bool (int_eq (position_of (moment_of p)) p)) [
   | inl even ↦
-      let moment : moment_of (p +ℤ pos (2 * n)) ≡ moment_of p +ℤ pos n = omega (arith, floor_arith) in
-      both (even-later p n) (ap has moment ∙ same (moment_of p) (int_eq-is (position_of (moment_of p)) p even))
+      let moment : moment_of (p +ℤ pos (2 * n)) ≡ moment_of p +ℤ pos n =
+      omega (arith, floor_arith) in
+      both (even-later p n)
+      (ap has moment ∙ same (moment_of p) (int_eq-is (position_of (moment_of p)) p even))
   | inr odd ↦ and_left _ _ (even-later p n ∙ odd) ∙ sym (and_left _ _ odd)
 ]
   where
@@ -105,11 +114,13 @@ moments_in-later has p n same = elim (cases_Bool (int_eq (position_of (moment_of
     both x y = cc
 
 -- the ranges have no gaps
-pub calendar-between : (dir : Dir) (p : ℤ) (k n : ℕ) → IsCalendarPosition p → IsCalendarPosition (ahead dir p n) → k ≤ n → IsCalendarPosition (ahead dir p k)
+pub calendar-between : (dir : Dir) (p : ℤ) (k n : ℕ) → IsCalendarPosition p
+    → IsCalendarPosition (ahead dir p n) → k ≤ n → IsCalendarPosition (ahead dir p k)
 calendar-between Fore p k n here there le = (omega (arith, ints), omega (arith, ints))
 calendar-between Back p k n here there le = (omega (arith, ints), omega (arith, ints))
 
-pub working-between : (dir : Dir) (t : ℤ) (k n : ℕ) → IsWorkingMoment t → IsWorkingMoment (ahead dir t n) → k ≤ n → IsWorkingMoment (ahead dir t k)
+pub working-between : (dir : Dir) (t : ℤ) (k n : ℕ) → IsWorkingMoment t
+    → IsWorkingMoment (ahead dir t n) → k ≤ n → IsWorkingMoment (ahead dir t k)
 working-between Fore t k n here there le = (omega (arith, ints), omega (arith, ints))
 working-between Back t k n here there le = (omega (arith, ints), omega (arith, ints))
 
@@ -123,7 +134,8 @@ one_first f m n d e = elim (cases_order m n) [
   ]
 ]
 
-pub one_change : (set : ℤ → Bool) (dir : Dir) (p q r : ℤ) → IsNextChange set dir p q → IsNextChange set dir p r → q ≡ r
+pub one_change : (set : ℤ → Bool) (dir : Dir) (p q r : ℤ) → IsNextChange set dir p q
+    → IsNextChange set dir p r → q ≡ r
 one_change set dir p q r a b =
     let same : a.0 ≡ b.0 = one_first (seen set dir p) a.0 b.0 a.2 b.2 in
     a.1 ∙ ap (ahead dir p) same ∙ sym b.1
@@ -138,13 +150,15 @@ one_meeting f m n d e = elim (cases_order m n) [
   ]
 ]
 
-pub one_candidate : (candidate : ℤ → Bool) (dir : Dir) (t u v : ℤ) → IsNextCandidate candidate dir t u → IsNextCandidate candidate dir t v → u ≡ v
+pub one_candidate : (candidate : ℤ → Bool) (dir : Dir) (t u v : ℤ) → IsNextCandidate candidate dir t
+    u → IsNextCandidate candidate dir t v → u ≡ v
 one_candidate candidate dir t u v a b =
     let same : a.1.0 ≡ b.1.0 = one_meeting (seen candidate dir t) a.1.0 b.1.0 a.1.2 b.1.2 in
     a.1.1 ∙ ap (ahead dir t) same ∙ sym b.1.1
 
 -- a nearest candidate and none at all exclude each other
-candidate_or_none : (candidate : ℤ → Bool) (dir : Dir) (t u : ℤ) → IsNextCandidate candidate dir t u → NoCandidateLeft candidate dir t → ⊥
+candidate_or_none : (candidate : ℤ → Bool) (dir : Dir) (t u : ℤ) → IsNextCandidate candidate dir t u
+    → NoCandidateLeft candidate dir t → ⊥
 candidate_or_none candidate dir t u a none =
     let P : ℤ → Type 0 = λ z. IsWorkingMoment z in
     true≢false (sym a.1.2.meets ∙ none a.1.0 a.1.2.later (subst P a.1.1 a.0))
@@ -153,14 +167,17 @@ abbrev moment_at : ℤ → Moment
 moment_at z = record { 0 = z }
 
 -- so that a step along candidates has one answer
-pub one_step : (has candidate : ℤ → Bool) (dir : Dir) (t : ℤ) (a b : Step) → IsNextStep has candidate dir t a → IsNextStep has candidate dir t b → a ≡ b
-one_step has candidate dir t (Hit u) (Hit v) h k = ap (λ z. Hit (moment_at z)) (one_candidate candidate dir t u.0 v.0 h.0 k.0)
+pub one_step : (has candidate : ℤ → Bool) (dir : Dir) (t : ℤ) (a b : Step)
+    → IsNextStep has candidate dir t a → IsNextStep has candidate dir t b → a ≡ b
+one_step has candidate dir t (Hit u) (Hit v) h k = ap (λ z. Hit (moment_at z))
+    (one_candidate candidate dir t u.0 v.0 h.0 k.0)
 one_step has candidate dir t (Hit u) (Pass v) h k =
     absurd (true≢false (sym h.1 ∙ ap has (one_candidate candidate dir t u.0 v.0 h.0 k.0) ∙ k.1))
 one_step has candidate dir t (Hit u) End h k = absurd (candidate_or_none candidate dir t u.0 h.0 k)
 one_step has candidate dir t (Pass u) (Hit v) h k =
     absurd (true≢false (sym k.1 ∙ ap has (one_candidate candidate dir t v.0 u.0 k.0 h.0) ∙ h.1))
-one_step has candidate dir t (Pass u) (Pass v) h k = ap (λ z. Pass (moment_at z)) (one_candidate candidate dir t u.0 v.0 h.0 k.0)
+one_step has candidate dir t (Pass u) (Pass v) h k = ap (λ z. Pass (moment_at z))
+    (one_candidate candidate dir t u.0 v.0 h.0 k.0)
 one_step has candidate dir t (Pass u) End h k = absurd (candidate_or_none candidate dir t u.0 h.0 k)
 one_step has candidate dir t End (Hit v) h k = absurd (candidate_or_none candidate dir t v.0 k.0 h)
 one_step has candidate dir t End (Pass v) h k = absurd (candidate_or_none candidate dir t v.0 k.0 h)

@@ -28,7 +28,8 @@ pub ahead_up_to : (dir : Dir) (p : ℤ) (n : ℕ) → IsUpTo dir (ahead dir p n)
 ahead_up_to Fore p n = omega (arith, ints)
 ahead_up_to Back p n = omega (arith, ints)
 
-pub steps_in_order : (dir : Dir) (p : ℤ) (m n : ℕ) → m ≤ n → IsUpTo dir (ahead dir p n) (ahead dir p m)
+pub steps_in_order : (dir : Dir) (p : ℤ) (m n : ℕ) → m ≤ n → IsUpTo dir (ahead dir p n)
+    (ahead dir p m)
 steps_in_order Fore p m n h = omega (arith, ints)
 steps_in_order Back p m n h = omega (arith, ints)
 
@@ -53,18 +54,23 @@ one_place Fore p q h k = omega (arith, ints)
 one_place Back p q h k = omega (arith, ints)
 
 -- by steps
-pub fewer_steps : (dir : Dir) (p q x : ℤ) (k n : ℕ) → q ≡ ahead dir p k → x ≡ ahead dir p n → IsUpTo dir x (ahead dir q 1) → k < n
+pub fewer_steps : (dir : Dir) (p q x : ℤ) (k n : ℕ) → q ≡ ahead dir p k → x ≡ ahead dir p n
+    → IsUpTo dir x (ahead dir q 1) → k < n
 fewer_steps Fore p q x k n e d h = omega (arith, ints)
 fewer_steps Back p q x k n e d h = omega (arith, ints)
 
-pub no_more_steps : (dir : Dir) (p q x : ℤ) (k n : ℕ) → q ≡ ahead dir p k → x ≡ ahead dir p n → IsUpTo dir x q → k ≤ n
+pub no_more_steps : (dir : Dir) (p q x : ℤ) (k n : ℕ) → q ≡ ahead dir p k → x ≡ ahead dir p n
+    → IsUpTo dir x q → k ≤ n
 no_more_steps Fore p q x k n e d h = omega (arith, ints)
 no_more_steps Back p q x k n e d h = omega (arith, ints)
 
 -- what lies between positions of the range lies in it, and none of it past its end
-pub in_range-within : (dir : Dir) (p q end : ℤ) → IsCalendarPosition p → IsCalendarPosition end → IsUpTo dir q p → IsUpTo dir end q → IsCalendarPosition q
-in_range-within Fore p q end here there h k = (omega (arith, ints, here.0), omega (arith, ints, there.1))
-in_range-within Back p q end here there h k = (omega (arith, ints, there.0), omega (arith, ints, here.1))
+pub in_range-within : (dir : Dir) (p q end : ℤ) → IsCalendarPosition p → IsCalendarPosition end
+    → IsUpTo dir q p → IsUpTo dir end q → IsCalendarPosition q
+in_range-within Fore p q end here there h k =
+    (omega (arith, ints, here.0), omega (arith, ints, there.1))
+in_range-within Back p q end here there h k =
+    (omega (arith, ints, there.0), omega (arith, ints, here.1))
 
 pub up_to_end : (dir : Dir) (p : ℤ) → IsCalendarPosition p → IsUpTo dir (range_end dir) p
 up_to_end Fore p here = here.1

@@ -16,7 +16,8 @@ use Rattle.moment_core.specs.declared.units.Unit.{Unit as TimeUnit}
 use Rattle.moment_core.specs.declared.units.Unit.TheVariants.{Year, WeekYear, Month, Week, Day, Hour, Minute, Second}
 
 -- 400 years later the number is that of as many units later
-pub unit_of-cycle : (u : TimeUnit) (t : ℤ) → unit_of u (t +ℤ pos G) ≡ unit_of u t +ℤ pos (units_of u)
+pub unit_of-cycle : (u : TimeUnit) (t : ℤ) → unit_of u (t +ℤ pos G)
+    ≡ unit_of u t +ℤ pos (units_of u)
 unfolding unit_of
 unit_of-cycle Year t = rw ((day_of-cycle t).0) (year_of-cycle (day_of t))
 unit_of-cycle (WeekYear first) t = rw ((day_of-cycle t).0) (week_year_of-cycle first (day_of t))
@@ -28,12 +29,17 @@ unit_of-cycle Minute t = omega (arith, floor_arith)
 unit_of-cycle Second t = refl
 
 -- later moments are of later units
-pub unit_of_mono : (u : TimeUnit) (t later : ℤ) → HasWeekday u → t ≤ℤ later → unit_of u t ≤ℤ unit_of u later
+pub unit_of_mono : (u : TimeUnit) (t later : ℤ) → HasWeekday u → t ≤ℤ later → unit_of u t ≤ℤ unit_of
+    u later
 unfolding unit_of
-unit_of_mono Year t later weekday le = year_of_mono (day_of t) (day_of later) (omega (arith, floor_arith))
-unit_of_mono (WeekYear first) t later weekday le = week_year_of_mono first (day_of t) (day_of later) weekday (omega (arith, floor_arith))
-unit_of_mono Month t later weekday le = month_number_mono (day_of t) (day_of later) (omega (arith, floor_arith))
-unit_of_mono (Week first) t later weekday le = week_number_mono first (day_of t) (day_of later) (omega (arith, floor_arith))
+unit_of_mono Year t later weekday le = year_of_mono (day_of t) (day_of later)
+    (omega (arith, floor_arith))
+unit_of_mono (WeekYear first) t later weekday le = week_year_of_mono first (day_of t) (day_of later)
+    weekday (omega (arith, floor_arith))
+unit_of_mono Month t later weekday le = month_number_mono (day_of t) (day_of later)
+    (omega (arith, floor_arith))
+unit_of_mono (Week first) t later weekday le = week_number_mono first (day_of t) (day_of later)
+    (omega (arith, floor_arith))
 unit_of_mono Day t later weekday le = omega (arith, floor_arith)
 unit_of_mono Hour t later weekday le = omega (arith, floor_arith)
 unit_of_mono Minute t later weekday le = omega (arith, floor_arith)
@@ -49,7 +55,8 @@ same-year a b same =
     let below : b <ℤ first_day (year_of a +ℤ pos 1) = rw same y.1 in
     omega (arith, ints, x.0, below, next, most.1)
 
-same-week_year : (first : ℕ) (a b : ℤ) → IsInRange 1 7 first → week_year_of first a ≡ week_year_of first b → b <ℤ (a +ℤ pos 371)
+same-week_year : (first : ℕ) (a b : ℤ) → IsInRange 1 7 first → week_year_of first a
+    ≡ week_year_of first b → b <ℤ (a +ℤ pos 371)
 same-week_year first a b weekday same =
     let x = week_year_of-is first a weekday in
     let y = week_year_of-is first b weekday in
@@ -67,11 +74,15 @@ same-month a b same =
     sym p.0 ∙ ap (λ z. floor_div z 12) same ∙ q.0
 
 -- no unit has more than 53 weeks
-pub days-of-unit : (u : TimeUnit) (t later : ℤ) → HasWeekday u → unit_of u t ≡ unit_of u later → day_of later <ℤ (day_of t +ℤ pos 371)
+pub days-of-unit : (u : TimeUnit) (t later : ℤ) → HasWeekday u → unit_of u t ≡ unit_of u later
+    → day_of later <ℤ (day_of t +ℤ pos 371)
 unfolding unit_of week_number
-days-of-unit Year t later weekday same = let h = same-year (day_of t) (day_of later) same in omega (arith, ints, h)
-days-of-unit (WeekYear first) t later weekday same = same-week_year first (day_of t) (day_of later) weekday same
-days-of-unit Month t later weekday same = let h = same-year (day_of t) (day_of later) (same-month (day_of t) (day_of later) same) in omega (arith, ints, h)
+days-of-unit Year t later weekday same = let h = same-year (day_of t) (day_of later) same in
+    omega (arith, ints, h)
+days-of-unit (WeekYear first) t later weekday same = same-week_year first (day_of t) (day_of later)
+    weekday same
+days-of-unit Month t later weekday same = let h = same-year (day_of t) (day_of later)
+    (same-month (day_of t) (day_of later) same) in omega (arith, ints, h)
 days-of-unit (Week first) t later weekday same = omega (arith, floor_arith)
 days-of-unit Day t later weekday same = omega (arith, floor_arith)
 days-of-unit Hour t later weekday same = omega (arith, floor_arith)
@@ -79,7 +90,8 @@ days-of-unit Minute t later weekday same = omega (arith, floor_arith)
 days-of-unit Second t later weekday same = omega (arith, floor_arith)
 
 -- so its moments lie less than 54 weeks apart
-pub unit-below-54-weeks : (u : TimeUnit) (t later : ℤ) → HasWeekday u → unit_of u t ≡ unit_of u later → later <ℤ (t +ℤ pos (54 * 604_800))
+pub unit-below-54-weeks : (u : TimeUnit) (t later : ℤ) → HasWeekday u → unit_of u t
+    ≡ unit_of u later → later <ℤ (t +ℤ pos (54 * 604_800))
 unit-below-54-weeks u t later weekday same =
     let h = days-of-unit u t later weekday same in
     omega (arith, floor_arith)

@@ -7,20 +7,31 @@ use Rattle.moment_core.specs.Calendar.{floor_div, floor_mod, is_leap, year_len, 
 use borrow.Author.Differences.{up, down}
 
 -- a number is its quotient and what is left, and no other numbers do that
-pub floor400-parts : (z : ℤ) → (z ≡ floor_div z 400 *ℤ pos 400 +ℤ pos (floor_mod z 400)) × (floor_mod z 400 < 400)
+pub floor400-parts : (z : ℤ) → (z ≡ floor_div z 400 *ℤ pos 400 +ℤ pos (floor_mod z 400))
+    × (floor_mod z 400 < 400)
 floor400-parts z = (omega (arith, floor_arith), omega (arith, floor_arith))
 
-pub floor400-unique : (z q : ℤ) (r : ℕ) → r < 400 → z ≡ q *ℤ pos 400 +ℤ pos r → (floor_div z 400 ≡ q) × (floor_mod z 400 ≡ r)
+pub floor400-unique : (z q : ℤ) (r : ℕ) → r < 400 → z ≡ q *ℤ pos 400 +ℤ pos r
+    → (floor_div z 400 ≡ q) × (floor_mod z 400 ≡ r)
 floor400-unique z q r h e = (omega (arith, floor_arith), omega (arith, floor_arith))
 
-pub floor_cycle-parts : (z : ℤ) → (z ≡ floor_div z 146_097 *ℤ pos 146_097 +ℤ pos (floor_mod z 146_097)) × (floor_mod z 146_097 < 146_097)
+pub floor_cycle-parts : (z : ℤ)
+    → (z ≡ floor_div z 146_097 *ℤ pos 146_097 +ℤ pos (floor_mod z 146_097))
+    × (floor_mod z 146_097 < 146_097)
 floor_cycle-parts z = (omega (arith, floor_arith), omega (arith, floor_arith))
 
-pub floor_cycle-unique : (z q : ℤ) (r : ℕ) → r < 146_097 → z ≡ q *ℤ pos 146_097 +ℤ pos r → (floor_div z 146_097 ≡ q) × (floor_mod z 146_097 ≡ r)
+pub floor_cycle-unique : (z q : ℤ) (r : ℕ) → r < 146_097 → z ≡ q *ℤ pos 146_097 +ℤ pos r
+    → (floor_div z 146_097 ≡ q) × (floor_mod z 146_097 ≡ r)
 floor_cycle-unique z q r h e = (omega (arith, floor_arith), omega (arith, floor_arith))
 
-floor_mod-shift : (y c : ℤ) (r : ℕ) → y ≡ c *ℤ pos 400 +ℤ pos r → (floor_mod y 4 ≡ r % 4) × (floor_mod y 100 ≡ r % 100) × (floor_mod y 400 ≡ r % 400)
-floor_mod-shift y c r e = (omega (arith, floor_arith), omega (arith, floor_arith), omega (arith, floor_arith))
+floor_mod-shift : (y c : ℤ) (r : ℕ) → y ≡ c *ℤ pos 400 +ℤ pos r → (floor_mod y 4 ≡ r % 4)
+    × (floor_mod y 100 ≡ r % 100) × (floor_mod y 400 ≡ r % 400)
+floor_mod-shift y c r e = (
+  omega (arith, floor_arith),
+  omega (arith, floor_arith),
+  omega
+      (arith, floor_arith),
+)
 
 pub is_leap-shift : (y c : ℤ) (r : ℕ) → y ≡ c *ℤ pos 400 +ℤ pos r → is_leap y ≡ is_leap (pos r)
 unfolding is_leap
@@ -30,8 +41,10 @@ is_leap-shift y c r e = let s = floor_mod-shift y c r e in rw (s.0, s.1, s.2)
 pub is_leap-cycle : (y : ℤ) → is_leap (y +ℤ pos 400) ≡ is_leap y
 is_leap-cycle y =
     let p = (floor400-parts y).0 in
-    let q : y +ℤ pos 400 ≡ (floor_div y 400 +ℤ pos 1) *ℤ pos 400 +ℤ pos (floor_mod y 400) = omega (arith, floor_arith) in
-    is_leap-shift (y +ℤ pos 400) (floor_div y 400 +ℤ pos 1) (floor_mod y 400) q ∙ sym (is_leap-shift y (floor_div y 400) (floor_mod y 400) p)
+    let q : y +ℤ pos 400 ≡ (floor_div y 400 +ℤ pos 1) *ℤ pos 400 +ℤ pos (floor_mod y 400) =
+    omega (arith, floor_arith) in
+    is_leap-shift (y +ℤ pos 400) (floor_div y 400 +ℤ pos 1) (floor_mod y 400) q
+    ∙ sym (is_leap-shift y (floor_div y 400) (floor_mod y 400) p)
 
 pub days_of_years-cycle : days_of_years 400 ≡ 146_097
 unfolding days_of_years is_leap
@@ -45,13 +58,15 @@ pub year_len_bounds : (y : ℤ) → (365 ≤ year_len y) × (year_len y ≤ 366)
 year_len_bounds y = grind arith
 
 -- what grows at each step grows
-pub mono_from_steps : (start : ℕ → ℕ) → ((n : ℕ) → start n ≤ start (suc n)) → (a k : ℕ) → start a ≤ start (k + a)
+pub mono_from_steps : (start : ℕ → ℕ) → ((n : ℕ) → start n ≤ start (suc n)) → (a k : ℕ)
+    → start a ≤ start (k + a)
 mono_from_steps start step a zero = let e : 0 + a ≡ a = omega arith in rw e (omega arith)
 mono_from_steps start step a (suc k) =
     let e : suc k + a ≡ suc (k + a) = omega arith in
     rw e (omega (arith, mono_from_steps start step a k, step (k + a)))
 
-pub mono : (start : ℕ → ℕ) → ((n : ℕ) → start n ≤ start (suc n)) → (a b : ℕ) → a ≤ b → start a ≤ start b
+pub mono : (start : ℕ → ℕ) → ((n : ℕ) → start n ≤ start (suc n)) → (a b : ℕ) → a ≤ b
+    → start a ≤ start b
 mono start step a b h =
     let e : b - a + a ≡ b = omega arith in
     rw e at (mono_from_steps start step a (b - a))
@@ -62,7 +77,8 @@ days_of_years-step n = omega (arith, days_of_years-suc n)
 pub days_of_years_mono : (a b : ℕ) → a ≤ b → days_of_years a ≤ days_of_years b
 days_of_years_mono = mono days_of_years days_of_years-step
 
-pub first_day-at : (y c : ℤ) (r : ℕ) → r ≤ 400 → y ≡ c *ℤ pos 400 +ℤ pos r → first_day y ≡ c *ℤ pos 146_097 +ℤ pos (days_of_years r) -ℤ pos 719_528
+pub first_day-at : (y c : ℤ) (r : ℕ) → r ≤ 400 → y ≡ c *ℤ pos 400 +ℤ pos r → first_day y
+    ≡ c *ℤ pos 146_097 +ℤ pos (days_of_years r) -ℤ pos 719_528
 unfolding first_day
 first_day-at y c r h e =
     elim (cases_lt r 400) [
@@ -83,7 +99,8 @@ first_day-next y =
     let p = floor400-parts y in
     let here = first_day-at y c r (omega arith) p.0 in
     let there = first_day-at (y +ℤ pos 1) c (suc r) (omega arith) (omega (arith, floor_arith)) in
-    let same : year_len y ≡ year_len (pos r) = ap (λ (b : Bool). cond b 366 365) (is_leap-shift y c r p.0) in
+    let same : year_len y ≡ year_len (pos r) = ap (λ (b : Bool). cond b 366 365)
+    (is_leap-shift y c r p.0) in
     omega (arith, floor_arith, days_of_years-suc r)
 
 pub first_day-1970 : first_day (pos 1970) ≡ pos 0
@@ -97,7 +114,8 @@ first_day-cycle y =
     let r = floor_mod y 400 in
     let p = floor400-parts y in
     let here = first_day-at y c r (omega arith) p.0 in
-    let there = first_day-at (y +ℤ pos 400) (c +ℤ pos 1) r (omega arith) (omega (arith, floor_arith)) in
+    let there = first_day-at (y +ℤ pos 400) (c +ℤ pos 1) r (omega arith)
+    (omega (arith, floor_arith)) in
     omega (arith, floor_arith)
 
 pub first_day_mono : (y later : ℤ) → y ≤ℤ later → first_day y ≤ℤ first_day later
@@ -118,7 +136,9 @@ first_day_mono y later h =
     omega (arith, floor_arith))
 
 -- the last that has begun has begun, and the next has not
-pub last_begun-is : (start : ℕ → ℕ) (n r : ℕ) → start 0 ≡ 0 → r < start (suc n) → (start (last_begun start n r) ≤ r) × (r < start (suc (last_begun start n r))) × (last_begun start n r ≤ n)
+pub last_begun-is : (start : ℕ → ℕ) (n r : ℕ) → start 0 ≡ 0 → r < start (suc n)
+    → (start (last_begun start n r) ≤ r) × (r < start (suc (last_begun start n r)))
+    × (last_begun start n r ≤ n)
 unfolding last_begun
 last_begun-is start zero r z h = (omega arith, h, omega arith)
 last_begun-is start (suc n) r z h =
@@ -133,7 +153,8 @@ last_begun-is start (suc n) r z h =
     ]
 
 -- and no other does that
-pub last_begun-unique : (start : ℕ → ℕ) → ((k : ℕ) → start k ≤ start (suc k)) → (n r k : ℕ) → k ≤ n → start k ≤ r → r < start (suc k) → last_begun start n r ≡ k
+pub last_begun-unique : (start : ℕ → ℕ) → ((k : ℕ) → start k ≤ start (suc k)) → (n r k : ℕ) → k ≤ n
+    → start k ≤ r → r < start (suc k) → last_begun start n r ≡ k
 unfolding last_begun
 last_begun-unique start step zero r k h low high = omega arith
 last_begun-unique start step (suc n) r k h low high =
@@ -142,7 +163,8 @@ last_begun-unique start step (suc n) r k h low high =
           let test : nat_le (start (suc n)) r ≡ false = lt-leb (start (suc n)) r lt in
           elim (cases_lt k (suc n)) [
             | inl below ↦ rw test (last_begun-unique start step n r k (omega arith) low high)
-            | inr above ↦ absurd (let is : k ≡ suc n = omega arith in let low₂ = rw is at low in omega arith)
+            | inr above ↦ absurd (let is : k ≡ suc n = omega arith in let low₂ = rw is at low in
+                omega arith)
           ]
       | inr ge ↦
           let test : nat_le (start (suc n)) r ≡ true = le-leb (start (suc n)) r ge in
@@ -153,7 +175,8 @@ last_begun-unique start step (suc n) r k h low high =
     ]
 
 -- the year of a day has begun, and the next has not
-pub year_of-is : (day : ℤ) → (first_day (year_of day) ≤ℤ day) × (day <ℤ first_day (year_of day +ℤ pos 1))
+pub year_of-is : (day : ℤ) → (first_day (year_of day) ≤ℤ day)
+    × (day <ℤ first_day (year_of day +ℤ pos 1))
 unfolding year_of
 year_of-is day =
     let z = day +ℤ pos 719_528 in
@@ -164,11 +187,13 @@ year_of-is day =
     let is = last_begun-is days_of_years 399 r none (omega (arith, days_of_years-cycle)) in
     let k = last_begun days_of_years 399 r in
     let here = first_day-at (c *ℤ pos 400 +ℤ pos k) c k (omega arith) refl in
-    let there = first_day-at (c *ℤ pos 400 +ℤ pos k +ℤ pos 1) c (suc k) (omega arith) (omega (arith, floor_arith)) in
+    let there = first_day-at (c *ℤ pos 400 +ℤ pos k +ℤ pos 1) c (suc k) (omega arith)
+    (omega (arith, floor_arith)) in
     (omega (arith, floor_arith), omega (arith, floor_arith))
 
 -- and it is the only such year
-pub year_of-unique : (day y : ℤ) → first_day y ≤ℤ day → day <ℤ first_day (y +ℤ pos 1) → year_of day ≡ y
+pub year_of-unique : (day y : ℤ) → first_day y ≤ℤ day → day <ℤ first_day (y +ℤ pos 1) → year_of day
+    ≡ y
 unfolding year_of
 year_of-unique day y low high =
     let c = floor_div y 400 in
@@ -181,8 +206,10 @@ year_of-unique day y low high =
     let place : z ≡ c *ℤ pos 146_097 +ℤ pos (days_of_years r + k) = omega (arith, floor_arith) in
     let whole = days_of_years_mono (suc r) 400 (omega arith) in
     let within : days_of_years r + k < days_of_years (suc r) = omega (arith, floor_arith) in
-    let s = floor_cycle-unique z c (days_of_years r + k) (omega (arith, days_of_years-cycle)) place in
-    let found = last_begun-unique days_of_years days_of_years-step 399 (days_of_years r + k) r (omega arith) (omega arith) within in
+    let s = floor_cycle-unique z c (days_of_years r + k) (omega (arith, days_of_years-cycle))
+    place in
+    let found = last_begun-unique days_of_years days_of_years-step 399 (days_of_years r + k) r
+    (omega arith) (omega arith) within in
     rw (s.0, s.1, found) (sym p.0)
 
 -- 146,097 days later the year is 400 years later
@@ -191,7 +218,8 @@ unfolding year_of
 year_of-cycle day =
     let z = day +ℤ pos 719_528 in
     let p = floor_cycle-parts z in
-    let s = floor_cycle-unique (day +ℤ pos 146_097 +ℤ pos 719_528) (floor_div z 146_097 +ℤ pos 1) (floor_mod z 146_097) p.1 (omega (arith, floor_arith)) in
+    let s = floor_cycle-unique (day +ℤ pos 146_097 +ℤ pos 719_528) (floor_div z 146_097 +ℤ pos 1)
+    (floor_mod z 146_097) p.1 (omega (arith, floor_arith)) in
     rw (s.0, s.1) (omega (arith, floor_arith))
 
 -- a later day has no earlier year
@@ -208,12 +236,15 @@ unfolding last_begun
 last_begun_le start zero r = omega arith
 last_begun_le start (suc n) r =
     elim (cases_lt r (start (suc n))) [
-      | inl lt ↦ let test : nat_le (start (suc n)) r ≡ false = lt-leb (start (suc n)) r lt in rw test (omega (arith, last_begun_le start n r))
-      | inr ge ↦ let test : nat_le (start (suc n)) r ≡ true = le-leb (start (suc n)) r ge in rw test (omega arith)
+      | inl lt ↦ let test : nat_le (start (suc n)) r ≡ false = lt-leb (start (suc n)) r lt in
+          rw test (omega (arith, last_begun_le start n r))
+      | inr ge ↦ let test : nat_le (start (suc n)) r ≡ true = le-leb (start (suc n)) r ge in
+          rw test (omega arith)
     ]
 
 -- and a later day lies in no earlier part
-pub last_begun_mono : (start : ℕ → ℕ) (n r later : ℕ) → r ≤ later → last_begun start n r ≤ last_begun start n later
+pub last_begun_mono : (start : ℕ → ℕ) (n r later : ℕ) → r ≤ later → last_begun start n r ≤
+    last_begun start n later
 unfolding last_begun
 last_begun_mono start zero r later h = omega arith
 last_begun_mono start (suc n) r later h =
@@ -226,7 +257,9 @@ last_begun_mono start (suc n) r later h =
       | inr ge ↦
           let test : nat_le (start (suc n)) later ≡ true = le-leb (start (suc n)) later ge in
           elim (cases_lt r (start (suc n))) [
-            | inl below ↦ let test₂ : nat_le (start (suc n)) r ≡ false = lt-leb (start (suc n)) r below in rw (test, test₂) (omega arith)
-            | inr above ↦ let test₂ : nat_le (start (suc n)) r ≡ true = le-leb (start (suc n)) r above in rw (test, test₂) (omega arith)
+            | inl below ↦ let test₂ : nat_le (start (suc n)) r ≡ false = lt-leb (start (suc n)) r
+                below in rw (test, test₂) (omega arith)
+            | inr above ↦ let test₂ : nat_le (start (suc n)) r ≡ true = le-leb (start (suc n)) r
+                above in rw (test, test₂) (omega arith)
           ]
     ]

@@ -122,46 +122,55 @@ near_not_refused (nears.None w) e = absurd (omega (arith, e))
 near_not_refused nears.Edge e = absurd (omega (arith, e))
 near_not_refused (nears.Budget s) e = absurd (omega (arith, e))
 
-module _ {found : Near → Type 0} {places : Dir → ℤ → Type 0} {due : Dir → ℤ → ℕ → Stop → Type 0} {kind : Kind} {clock : Clock} {budget : ℕ} where
+module _ {found : Near → Type 0} {places : Dir → ℤ → Type 0} {due : Dir → ℤ → ℕ → Stop → Type 0}
+    {kind : Kind} {clock : Clock} {budget : ℕ} where
   searched_done : {o : Outcome} → IsSearched found places due kind clock budget o → IsDone o.status
   searched_done (answers near is) = near_done near
   searched_done (stops s is not) = inr (inr refl)
 
-  searched_not_refused : {o : Outcome} → IsSearched found places due kind clock budget o → o.status ≡ 2 → ⊥
+  searched_not_refused : {o : Outcome} → IsSearched found places due kind clock budget o → o.status
+      ≡ 2 → ⊥
   searched_not_refused (answers near is) e = near_not_refused near e
   searched_not_refused (stops s is not) e = absurd (omega (arith, e))
 
   -- with an ample budget no search stops
-  searched_never_stops : ((s : Stop) → found (nears.Budget s) → ⊥) → {o : Outcome} → IsSearched found places due kind clock budget o → o.status ≡ 3 → IsAmpleAt places due budget → ⊥
+  searched_never_stops : ((s : Stop) → found (nears.Budget s) → ⊥) → {o : Outcome}
+      → IsSearched found places due kind clock budget o → o.status ≡ 3 → IsAmpleAt places due budget
+      → ⊥
   searched_never_stops none (answers (nears.Found run) is) e ample = absurd (omega (arith, e))
   searched_never_stops none (answers (nears.None w) is) e ample = absurd (omega (arith, e))
   searched_never_stops none (answers nears.Edge is) e ample = absurd (omega (arith, e))
   searched_never_stops none (answers (nears.Budget s) is) e ample = none s is
   searched_never_stops none (stops s is not) e ample = not ample
 
-tested_done : {t : Tree Meaning} {p : ℤ} {budget : ℕ} {o : Outcome} → IsTested t p budget o → IsDone o.status
+tested_done : {t : Tree Meaning} {p : ℤ} {budget : ℕ} {o : Outcome} → IsTested t p budget o
+    → IsDone o.status
 tested_done (tested tests.In is) = inl refl
 tested_done (tested tests.Out is) = inl refl
 tested_done (tested (tests.Budget s) is) = inr (inr refl)
 
-tested_not_refused : {t : Tree Meaning} {p : ℤ} {budget : ℕ} {o : Outcome} → IsTested t p budget o → o.status ≡ 2 → ⊥
+tested_not_refused : {t : Tree Meaning} {p : ℤ} {budget : ℕ} {o : Outcome} → IsTested t p budget o
+    → o.status ≡ 2 → ⊥
 tested_not_refused (tested tests.In is) e = absurd (omega (arith, e))
 tested_not_refused (tested tests.Out is) e = absurd (omega (arith, e))
 tested_not_refused (tested (tests.Budget s) is) e = absurd (omega (arith, e))
 
-tested_never_stops : {t : Tree Meaning} {p : ℤ} {budget : ℕ} {o : Outcome} → IsTested t p budget o → o.status ≡ 3 → ((s : Stop) → IsDueInTest t p budget s → ⊥) → ⊥
+tested_never_stops : {t : Tree Meaning} {p : ℤ} {budget : ℕ} {o : Outcome} → IsTested t p budget o
+    → o.status ≡ 3 → ((s : Stop) → IsDueInTest t p budget s → ⊥) → ⊥
 tested_never_stops (tested tests.In is) e none = absurd (omega (arith, e))
 tested_never_stops (tested tests.Out is) e none = absurd (omega (arith, e))
 tested_never_stops (tested (tests.Budget s) is) e none = none s is
 
-asked_done : (t : Tree Meaning) (side : Neighbour) (kind : Kind) (clock : Clock) (at : ℤ) (budget : ℕ) (o : Outcome) → IsAskedBy t side kind clock at budget o → IsDone o.status
+asked_done : (t : Tree Meaning) (side : Neighbour) (kind : Kind) (clock : Clock) (at : ℤ)
+    (budget : ℕ) (o : Outcome) → IsAskedBy t side kind clock at budget o → IsDone o.status
 asked_done t Next kind clock at budget o h = searched_done h
 asked_done t Previous kind clock at budget o h = searched_done h
 asked_done t Current kind clock at budget o h = searched_done h
 asked_done t Closest kind clock at budget o h = searched_done h
 asked_done t Contains kind clock at budget o h = tested_done h
 
-asked_not_refused : (t : Tree Meaning) (side : Neighbour) (kind : Kind) (clock : Clock) (at : ℤ) (budget : ℕ) (o : Outcome) → IsAskedBy t side kind clock at budget o → o.status ≡ 2 → ⊥
+asked_not_refused : (t : Tree Meaning) (side : Neighbour) (kind : Kind) (clock : Clock) (at : ℤ)
+    (budget : ℕ) (o : Outcome) → IsAskedBy t side kind clock at budget o → o.status ≡ 2 → ⊥
 asked_not_refused t Next kind clock at budget o h e = searched_not_refused h e
 asked_not_refused t Previous kind clock at budget o h e = searched_not_refused h e
 asked_not_refused t Current kind clock at budget o h e = searched_not_refused h e
@@ -171,18 +180,33 @@ asked_not_refused t Contains kind clock at budget o h e = tested_not_refused h e
 printed_done : {trees : Trees} {o : Outcome} → IsPrinted trees o → o.status ≡ 0
 printed_done printed = refl
 
-report_done : (entries : Entries) (query : Query) (reading : Reading) (clock : Clock) (o : Outcome) → IsReportOf entries query reading clock o → IsDone o.status
+report_done : (entries : Entries) (query : Query) (reading : Reading) (clock : Clock) (o : Outcome)
+    → IsReportOf entries query reading clock o → IsDone o.status
 report_done entries Show reading clock o h = inl (printed_done h)
-report_done entries (NearBy side at budget) reading clock o h = asked_done (meant_of entries reading.trees.first) side reading.sorts.first.kind clock at.moment.0 budget o h
-report_done entries (Walk from to dir limit budget) reading clock o h = walk_done (meant_of entries reading.trees.first) reading.sorts.first.kind clock (window_token (window_given from to) dir) limit budget o h
-report_done entries (Resume token limit budget) reading clock o h = walk_done (meant_of entries reading.trees.first) reading.sorts.first.kind clock token limit budget o h
+report_done entries (NearBy side at budget) reading clock o h =
+    asked_done (meant_of entries reading.trees.first) side reading.sorts.first.kind clock
+    at.moment.0 budget o h
+report_done entries (Walk from to dir limit budget) reading clock o h =
+    walk_done (meant_of entries reading.trees.first) reading.sorts.first.kind clock
+    (window_token (window_given from to) dir) limit budget o h
+report_done entries (Resume token limit budget) reading clock o h =
+    walk_done (meant_of entries reading.trees.first) reading.sorts.first.kind clock token limit
+    budget o h
 
 -- a report is no refusal
-pub report_not_refused : (entries : Entries) (query : Query) (reading : Reading) (clock : Clock) (o : Outcome) → IsReportOf entries query reading clock o → o.status ≡ 2 → ⊥
-report_not_refused entries Show reading clock o h e = let zero = printed_done h in absurd (omega (arith, e, zero))
-report_not_refused entries (NearBy side at budget) reading clock o h e = asked_not_refused (meant_of entries reading.trees.first) side reading.sorts.first.kind clock at.moment.0 budget o h e
-report_not_refused entries (Walk from to dir limit budget) reading clock o h e = walk_not_refused (meant_of entries reading.trees.first) reading.sorts.first.kind clock (window_token (window_given from to) dir) limit budget o h e
-report_not_refused entries (Resume token limit budget) reading clock o h e = walk_not_refused (meant_of entries reading.trees.first) reading.sorts.first.kind clock token limit budget o h e
+pub report_not_refused : (entries : Entries) (query : Query) (reading : Reading) (clock : Clock)
+    (o : Outcome) → IsReportOf entries query reading clock o → o.status ≡ 2 → ⊥
+report_not_refused entries Show reading clock o h e = let zero = printed_done h in
+    absurd (omega (arith, e, zero))
+report_not_refused entries (NearBy side at budget) reading clock o h e =
+    asked_not_refused (meant_of entries reading.trees.first) side reading.sorts.first.kind clock
+    at.moment.0 budget o h e
+report_not_refused entries (Walk from to dir limit budget) reading clock o h e =
+    walk_not_refused (meant_of entries reading.trees.first) reading.sorts.first.kind clock
+    (window_token (window_given from to) dir) limit budget o h e
+report_not_refused entries (Resume token limit budget) reading clock o h e =
+    walk_not_refused (meant_of entries reading.trees.first) reading.sorts.first.kind clock token
+    limit budget o h e
 
 pub replies_are_done : RepliesAreDone
 replies_are_done entries query text o (refused refusal h) = inr (inl refl)
@@ -190,11 +214,14 @@ replies_are_done entries query text o (replied x _ h report) =
     report_done entries query x.reading x.clock o report
 
 -- no answer is a stop
-no_current_stop : (t : Tree Meaning) (at : ℤ) (s : Stop) → IsCurrentRun (is_member t) (window_of t) at (nears.Budget s) → ⊥
+no_current_stop : (t : Tree Meaning) (at : ℤ) (s : Stop) → IsCurrentRun (is_member t)
+    (window_of t) at (nears.Budget s) → ⊥
 no_current_stop t at s (inl around) = around.1
 no_current_stop t at s (inr past) = past.1
 
-no_closer_stop : (t : Tree Meaning) (at : ℤ) (s : Stop) (before after : Near) → IsNextRun (is_member t) (window_of t) Back at before → IsNextRun (is_member t) (window_of t) Fore at after → nears.Budget s ≡ closer_of at before after → ⊥
+no_closer_stop : (t : Tree Meaning) (at : ℤ) (s : Stop) (before after : Near)
+    → IsNextRun (is_member t) (window_of t) Back at before → IsNextRun (is_member t) (window_of t)
+    Fore at after → nears.Budget s ≡ closer_of at before after → ⊥
 no_closer_stop t at s (nears.Budget x) after h k e = h
 no_closer_stop t at s before (nears.Budget x) h k e = k
 no_closer_stop t at s (nears.Found x) (nears.Found y) h k e = absurd cc
@@ -207,50 +234,82 @@ no_closer_stop t at s nears.Edge (nears.Found y) h k e = absurd cc
 no_closer_stop t at s nears.Edge (nears.None w) h k e = absurd cc
 no_closer_stop t at s nears.Edge nears.Edge h k e = absurd cc
 
-no_closest_stop : (t : Tree Meaning) (at : ℤ) (s : Stop) → IsClosestRun (is_member t) (window_of t) at (nears.Budget s) → ⊥
+no_closest_stop : (t : Tree Meaning) (at : ℤ) (s : Stop) → IsClosestRun (is_member t)
+    (window_of t) at (nears.Budget s) → ⊥
 no_closest_stop t at s (inl around) = around.1
 no_closest_stop t at s (inr beside) = let x = beside.1 in no_closer_stop t at s x.0 x.1 x.2 x.3 x.4
 
-no_stop : (t : Tree Meaning) (side : Neighbour) (at : ℤ) (s : Stop) → IsFoundBy t side at (nears.Budget s) → ⊥
+no_stop : (t : Tree Meaning) (side : Neighbour) (at : ℤ) (s : Stop)
+    → IsFoundBy t side at (nears.Budget s) → ⊥
 no_stop t Next at s h = h.0
 no_stop t Previous at s h = h.0
 no_stop t Current at s h = no_current_stop t at s h.0
 no_stop t Closest at s h = no_closest_stop t at s h.0
 no_stop t Contains at s h = h
 
-never_stops : (t : Tree Meaning) (side : Neighbour) (kind : Kind) (clock : Clock) (at : ℤ) (budget : ℕ) (o : Outcome) → IsAskedBy t side kind clock at budget o → o.status ≡ 3 → IsAmpleBy t side at budget → ⊥
-never_stops t Next kind clock at budget o h e ample = searched_never_stops (no_stop t Next at) h e ample
-never_stops t Previous kind clock at budget o h e ample = searched_never_stops (no_stop t Previous at) h e ample
-never_stops t Current kind clock at budget o h e ample = searched_never_stops (no_stop t Current at) h e ample
-never_stops t Closest kind clock at budget o h e ample = searched_never_stops (no_stop t Closest at) h e ample
+never_stops : (t : Tree Meaning) (side : Neighbour) (kind : Kind) (clock : Clock) (at : ℤ)
+    (budget : ℕ) (o : Outcome) → IsAskedBy t side kind clock at budget o → o.status ≡ 3
+    → IsAmpleBy t side at budget → ⊥
+never_stops t Next kind clock at budget o h e ample = searched_never_stops (no_stop t Next at) h e
+    ample
+never_stops t Previous kind clock at budget o h e ample =
+    searched_never_stops (no_stop t Previous at) h e ample
+never_stops t Current kind clock at budget o h e ample = searched_never_stops (no_stop t Current at)
+    h e ample
+never_stops t Closest kind clock at budget o h e ample = searched_never_stops (no_stop t Closest at)
+    h e ample
 never_stops t Contains kind clock at budget o h e ample = tested_never_stops h e ample
 
 -- a budget that is enough stops no search, for a tree with a sort
-never_due : AheadNeverStopsTests → AmpleNeverStopsTests → EnoughFindsNeighbours → AmpleFindsNeighbours → SortedStayInReach → (entries : Entries) (t : Tree Rule) (side : Neighbour) (sort : Sort) (at : ℤ) (budget : ℕ) → sort_of_tree t ≡ Ok sort → IsCalendarMoment at → (IsAbovePlaces (meant_of entries t) side at budget ⊎ IsAmple (meant_of entries t) budget) → IsAmpleBy (meant_of entries t) side at budget
-never_due ahead ample_tests enough finds reach entries t Next sort at budget sorted here (inl above) = enough.next (meant_of entries t) Fore budget at here above
-never_due ahead ample_tests enough finds reach entries t Next sort at budget sorted here (inr ample) = finds.next (meant_of entries t) Fore budget at (reach entries t sort sorted) here ample
-never_due ahead ample_tests enough finds reach entries t Previous sort at budget sorted here (inl above) = enough.next (meant_of entries t) Back budget at here above
-never_due ahead ample_tests enough finds reach entries t Previous sort at budget sorted here (inr ample) = finds.next (meant_of entries t) Back budget at (reach entries t sort sorted) here ample
-never_due ahead ample_tests enough finds reach entries t Current sort at budget sorted here (inl above) = enough.current (meant_of entries t) budget at here above
-never_due ahead ample_tests enough finds reach entries t Current sort at budget sorted here (inr ample) = finds.current (meant_of entries t) budget at (reach entries t sort sorted) here ample
-never_due ahead ample_tests enough finds reach entries t Closest sort at budget sorted here (inl above) = enough.closest (meant_of entries t) budget at here above
-never_due ahead ample_tests enough finds reach entries t Closest sort at budget sorted here (inr ample) = finds.closest (meant_of entries t) budget at (reach entries t sort sorted) here ample
-never_due ahead ample_tests enough finds reach entries t Contains sort at budget sorted here (inl looks) = ahead (meant_of entries t) (position_of at) budget looks
-never_due ahead ample_tests enough finds reach entries t Contains sort at budget sorted here (inr ample) =
-    ample_tests (meant_of entries t) (position_of at) budget (reach entries t sort sorted) (position_in_range at here) ample
+never_due : AheadNeverStopsTests → AmpleNeverStopsTests → EnoughFindsNeighbours
+    → AmpleFindsNeighbours → SortedStayInReach → (entries : Entries) (t : Tree Rule)
+    (side : Neighbour) (sort : Sort) (at : ℤ) (budget : ℕ) → sort_of_tree t ≡ Ok sort
+    → IsCalendarMoment at → (IsAbovePlaces (meant_of entries t) side at budget
+    ⊎ IsAmple (meant_of entries t) budget) → IsAmpleBy (meant_of entries t) side at budget
+never_due ahead ample_tests enough finds reach entries t Next sort at budget sorted here
+    (inl above) = enough.next (meant_of entries t) Fore budget at here above
+never_due ahead ample_tests enough finds reach entries t Next sort at budget sorted here
+    (inr ample) = finds.next (meant_of entries t) Fore budget at (reach entries t sort sorted) here
+    ample
+never_due ahead ample_tests enough finds reach entries t Previous sort at budget sorted here
+    (inl above) = enough.next (meant_of entries t) Back budget at here above
+never_due ahead ample_tests enough finds reach entries t Previous sort at budget sorted here
+    (inr ample) = finds.next (meant_of entries t) Back budget at (reach entries t sort sorted) here
+    ample
+never_due ahead ample_tests enough finds reach entries t Current sort at budget sorted here
+    (inl above) = enough.current (meant_of entries t) budget at here above
+never_due ahead ample_tests enough finds reach entries t Current sort at budget sorted here
+    (inr ample) = finds.current (meant_of entries t) budget at (reach entries t sort sorted) here
+    ample
+never_due ahead ample_tests enough finds reach entries t Closest sort at budget sorted here
+    (inl above) = enough.closest (meant_of entries t) budget at here above
+never_due ahead ample_tests enough finds reach entries t Closest sort at budget sorted here
+    (inr ample) = finds.closest (meant_of entries t) budget at (reach entries t sort sorted) here
+    ample
+never_due ahead ample_tests enough finds reach entries t Contains sort at budget sorted here
+    (inl looks) = ahead (meant_of entries t) (position_of at) budget looks
+never_due ahead ample_tests enough finds reach entries t Contains sort at budget sorted here
+    (inr ample) =
+    ample_tests (meant_of entries t) (position_of at) budget (reach entries t sort sorted)
+    (position_in_range at here) ample
 
 -- no phase behind the text's own changes what it is read as
-pub reading_kept : (query : Query) (text : List ℕ) (x : OnClock) → Passes query text (Ok x) → IsMeant text (Ok x.reading)
+pub reading_kept : (query : Query) (text : List ℕ) (x : OnClock) → Passes query text (Ok x)
+    → IsMeant text (Ok x.reading)
 reading_kept query text x (goes_on m _ meant (goes_on y _ (goes_on n _ two clock) settles)) =
-    subst (λ (k : Reading). IsMeant text (Ok k)) (kept_two m n (takes query m.trees.second) two ∙ kept_clock n y (one_clock (sets_clock n.sorts) (words_clock query)) clock ∙ ap (λ (z : OnClock). z.reading) (kept_settled y x settles)) meant
+    subst (λ (k : Reading). IsMeant text (Ok k)) (kept_two m n (takes query m.trees.second) two
+    ∙ kept_clock n y (one_clock (sets_clock n.sorts) (words_clock query)) clock
+    ∙ ap (λ (z : OnClock). z.reading) (kept_settled y x settles)) meant
   where
     kept_two : (m n : Reading) (b : Bool) → Ok n ≡ cond b (Ok m) (Err refusals.Two) → m ≡ n
     kept_two m n true e = cc
     kept_two m n false e = absurd cc
 
-    kept_clock : (m : Reading) (y : OnClock) (o : Option Clock) → Ok y ≡ on_clock m o → m ≡ y.reading
+    kept_clock : (m : Reading) (y : OnClock) (o : Option Clock) → Ok y ≡ on_clock m o → m
+        ≡ y.reading
     kept_clock m y None e = absurd cc
-    kept_clock m y (Some clock) e = ap (λ (z : OnClock). z.reading) (let same : record { reading = m; clock = clock } ≡ y = cc in same)
+    kept_clock m y (Some clock) e = ap (λ (z : OnClock). z.reading)
+        (let same : record { reading = m; clock = clock } ≡ y = cc in same)
 
     kept_settled : (y z : OnClock) → Settles query y (Ok z) → y ≡ z
     kept_settled y z (settled are) = refl
@@ -260,8 +319,10 @@ record HasTrees (text : List ℕ) (reading : Reading) : Type 0 where
   read : IsRead text (Ok reading.trees)
   sorted : AreSorts reading.trees reading.sorts
 
-meant_trees : (text : List ℕ) (reading other : Reading) → other ≡ reading → IsMeant text (Ok other) → HasTrees text reading
-meant_trees text reading other e (sets _ h are) = subst (HasTrees text) e (record { read = h; sorted = are })
+meant_trees : (text : List ℕ) (reading other : Reading) → other ≡ reading → IsMeant text (Ok other)
+    → HasTrees text reading
+meant_trees text reading other e (sets _ h are) = subst (HasTrees text) e
+    (record { read = h; sorted = are })
 
 -- what is known of ample budgets
 pub record Budgets : Type 0 where
@@ -272,23 +333,37 @@ pub record Budgets : Type 0 where
   pub walks : Walks
   pub reach : SortedStayInReach
 
-asks_no_stop : Budgets → (entries : Entries) (query : Query) (reading : Reading) (clock : Clock) (o : Outcome) → IsInRange query → sort_of_tree reading.trees.first ≡ Ok reading.sorts.first → IsReportOf entries query reading clock o → o.status ≡ 3 → IsEnough (meant_of entries reading.trees.first) query → ⊥
-asks_no_stop budgets entries Show reading clock o within sorted h e enough = let zero = printed_done h in absurd (omega (arith, e, zero))
+asks_no_stop : Budgets → (entries : Entries) (query : Query) (reading : Reading) (clock : Clock)
+    (o : Outcome) → IsInRange query → sort_of_tree reading.trees.first ≡ Ok reading.sorts.first
+    → IsReportOf entries query reading clock o → o.status ≡ 3
+    → IsEnough (meant_of entries reading.trees.first) query → ⊥
+asks_no_stop budgets entries Show reading clock o within sorted h e enough = let zero =
+    printed_done h in absurd (omega (arith, e, zero))
 asks_no_stop budgets entries (NearBy side at budget) reading clock o within sorted h e enough =
-    never_stops (meant_of entries reading.trees.first) side reading.sorts.first.kind clock at.moment.0 budget o h e
-    (never_due budgets.ahead budgets.tests budgets.above budgets.finds budgets.reach entries reading.trees.first side reading.sorts.first at.moment.0 budget sorted within.0 enough)
-asks_no_stop budgets entries (Walk from to dir limit budget) reading clock o within sorted h e enough =
-    walk_never_stops budgets.walks budgets.reach entries reading.trees.first reading.sorts.first reading.sorts.first.kind clock (window_token (window_given from to) dir) limit budget o sorted
+    never_stops (meant_of entries reading.trees.first) side reading.sorts.first.kind clock
+    at.moment.0 budget o h e
+    (never_due budgets.ahead budgets.tests budgets.above budgets.finds budgets.reach entries
+    reading.trees.first side reading.sorts.first at.moment.0 budget sorted within.0 enough)
+asks_no_stop budgets entries (Walk from to dir limit budget) reading clock o within sorted h e
+    enough =
+    walk_never_stops budgets.walks budgets.reach entries reading.trees.first reading.sorts.first
+    reading.sorts.first.kind clock (window_token (window_given from to) dir) limit budget o sorted
     (window_fits budgets.walks.begin from to dir within.0 within.1) h e enough
 asks_no_stop budgets entries (Resume token limit budget) reading clock o within sorted h e enough =
-    walk_never_stops budgets.walks budgets.reach entries reading.trees.first reading.sorts.first reading.sorts.first.kind clock token limit budget o sorted within.0 h e enough
+    walk_never_stops budgets.walks budgets.reach entries reading.trees.first reading.sorts.first
+    reading.sorts.first.kind clock token limit budget o sorted within.0 h e enough
 
-report_stops : {entries : Entries} → Reads → Budgets → (text : List ℕ) (query : Query) (reading : Reading) (clock : Clock) (o : Outcome) → IsInRange query → IsMeant text (Ok reading) → IsReportOf entries query reading clock o → o.status ≡ 3 → HasAmpleBudget entries text query → ⊥
+report_stops : {entries : Entries} → Reads → Budgets → (text : List ℕ) (query : Query)
+    (reading : Reading) (clock : Clock) (o : Outcome) → IsInRange query → IsMeant text (Ok reading)
+    → IsReportOf entries query reading clock o → o.status ≡ 3 → HasAmpleBudget entries text query
+    → ⊥
 report_stops {entries} reads budgets text query reading clock o within meant h e ample =
     let has = meant_trees text reading reading refl meant in
-    let both : Ok ample.trees ≡ Ok reading.trees = reads.unique text (Ok ample.trees) (Ok reading.trees) ample.read has.read in
+    let both : Ok ample.trees ≡ Ok reading.trees = reads.unique text (Ok ample.trees)
+    (Ok reading.trees) ample.read has.read in
     let same : ample.trees ≡ reading.trees = cc in
-    asks_no_stop budgets entries query reading clock o within has.sorted.0 h e (subst (λ (t : Trees). IsEnough (meant_of entries t.first) query) same ample.ample)
+    asks_no_stop budgets entries query reading clock o within has.sorted.0 h e
+    (subst (λ (t : Trees). IsEnough (meant_of entries t.first) query) same ample.ample)
 
 pub ample_replies_never_stop : Reads → Budgets → AmpleRepliesNeverStop
 ample_replies_never_stop reads budgets entries query text o within (refused refusal h) ample e =

@@ -16,7 +16,8 @@ abbrev pub is_equals : ℕ → Bool
 is_equals b = b == 61
 
 -- no key has an `=` in it
-pub key_before : (key : Key) (value : List ℕ) → before_first is_equals (word_of key value) ≡ key_text key
+pub key_before : (key : Key) (value : List ℕ) → before_first is_equals (word_of key value)
+    ≡ key_text key
 key_before At value = refl
 key_before From value = refl
 key_before To value = refl
@@ -39,9 +40,11 @@ value_after Seed value = refl
 -- the key of a text, and any where it is none
 pub read_key : List ℕ → Key
 read_key text =
-    if bytes_eq text (codes "at") then At else if bytes_eq text (codes "from") then From else if bytes_eq text (codes "to") then To
+    if bytes_eq text (codes "at") then At else if bytes_eq text (codes "from") then From else if
+    bytes_eq text (codes "to") then To
     else if bytes_eq text (codes "dir") then Dir else if bytes_eq text (codes "limit") then Limit
-    else if bytes_eq text (codes "budget") then Budget else if bytes_eq text (codes "token") then Token else Seed
+    else if bytes_eq text (codes "budget") then Budget else if bytes_eq text (codes "token") then
+    Token else Seed
 
 pub read_key-text : (key : Key) → read_key (key_text key) ≡ key
 unfolding read_key
@@ -55,32 +58,42 @@ read_key-text Token = refl
 read_key-text Seed = refl
 
 pub one_key : (a b : Key) (v w : List ℕ) → word_of a v ≡ word_of b w → a ≡ b
-one_key a b v w e = sym (read_key-text a) ∙ ap read_key (sym (key_before a v) ∙ ap (before_first is_equals) e ∙ key_before b w) ∙ read_key-text b
+one_key a b v w e = sym (read_key-text a)
+    ∙ ap read_key (sym (key_before a v) ∙ ap (before_first is_equals) e ∙ key_before b w)
+    ∙ read_key-text b
 
 pub one_value : (a b : Key) (v w : List ℕ) → word_of a v ≡ word_of b w → v ≡ w
 one_value a b v w e = sym (value_after a v) ∙ ap (after_first is_equals) e ∙ value_after b w
 
 -- a word that fits does so with its own key and value
-pub fits_by : (command : Command) (before : List (List ℕ)) (word : List ℕ) (key : Key) (value : List ℕ) → word ≡ word_of key value → Fits command before word → Contains (keys_of command) key × Lacks before key × InForm before key value
+pub fits_by : (command : Command) (before : List (List ℕ)) (word : List ℕ) (key : Key)
+    (value : List ℕ) → word ≡ word_of key value → Fits command before word
+    → Contains (keys_of command) key × Lacks before key × InForm before key value
 fits_by command before word key value is fits =
     let whole : word_of fits.key fits.value ≡ word_of key value = sym fits.word_is ∙ is in
     let same = one_key fits.key key fits.value value whole in (
       subst (Contains (keys_of command)) same fits.of_command,
       subst (Lacks before) same fits.first,
-      subst (InForm before key) (one_value fits.key key fits.value value whole) (subst (λ k. InForm before k fits.value) same fits.in_form),
+      subst (InForm before key) (one_value fits.key key fits.value value whole)
+          (subst (λ k. InForm before k fits.value) same fits.in_form),
     )
 
 -- the command of a name, and any where it is none
 pub read_command : List ℕ → Command
 read_command name =
     if bytes_eq name (codes "next") then Next else if bytes_eq name (codes "previous") then Previous
-    else if bytes_eq name (codes "current") then Current else if bytes_eq name (codes "closest") then Closest
-    else if bytes_eq name (codes "contains") then ContainsOf else if bytes_eq name (codes "walk") then Walk
+    else if bytes_eq name (codes "current") then Current else if bytes_eq name (codes "closest")
+    then Closest
+    else if bytes_eq name (codes "contains") then ContainsOf else if bytes_eq name (codes "walk")
+    then Walk
     else if bytes_eq name (codes "resume") then Resume else if bytes_eq name (codes "min") then Min
     else if bytes_eq name (codes "max") then Max else if bytes_eq name (codes "empty") then Empty
-    else if bytes_eq name (codes "count") then Count else if bytes_eq name (codes "duration") then Duration
-    else if bytes_eq name (codes "audit") then Audit else if bytes_eq name (codes "contains_set") then ContainsSet
-    else if bytes_eq name (codes "intersects") then Intersects else if bytes_eq name (codes "intersected") then Intersected
+    else if bytes_eq name (codes "count") then Count else if bytes_eq name (codes "duration") then
+    Duration
+    else if bytes_eq name (codes "audit") then Audit else if bytes_eq name (codes "contains_set")
+    then ContainsSet
+    else if bytes_eq name (codes "intersects") then Intersects else if bytes_eq name
+    (codes "intersected") then Intersected
     else if bytes_eq name (codes "show") then Show else Load
 
 pub read_command-name : (command : Command) → read_command (name_of command) ≡ command
@@ -107,7 +120,8 @@ read_command-name Load = refl
 pub one_command : (a b : Command) → name_of a ≡ name_of b → a ≡ b
 one_command a b e = sym (read_command-name a) ∙ ap read_command e ∙ read_command-name b
 
-pub in_either : (xs ys : List Key) (key : Key) (a b : Bool) → (IsTrue a ↔ Contains xs key) → a ≡ false → (IsTrue b ↔ Contains ys key) → IsTrue b ↔ Contains (xs ++ ys) key
+pub in_either : (xs ys : List Key) (key : Key) (a b : Bool) → (IsTrue a ↔ Contains xs key) → a
+    ≡ false → (IsTrue b ↔ Contains ys key) → IsTrue b ↔ Contains (xs ++ ys) key
 in_either xs ys key a b first not_first second = (
   λ is. Contains-append_right xs ys key (second.0 is),
   λ has.
@@ -125,9 +139,11 @@ pub contains_end : {X : Type 0} (xs : List X) (x : X) → Contains (xs ++ x ∷ 
 contains_end xs x = Contains-append_right xs (x ∷ []) x (0, omega arith, refl)
 
 -- a word of another key changes nothing
-pub lacks_more : (words : List (List ℕ)) (key other : Key) (value : List ℕ) → key ≢ other → Lacks words key → Lacks (words ++ word_of other value ∷ []) key
+pub lacks_more : (words : List (List ℕ)) (key other : Key) (value : List ℕ) → key ≢ other
+    → Lacks words key → Lacks (words ++ word_of other value ∷ []) key
 lacks_more words key other value differs lacks v gives =
     elim (Contains-append_cases words (word_of other value ∷ []) (word_of key v) gives) [
       | inl before ↦ lacks v before
-      | inr last ↦ differs (one_key key other v value (contains_one (word_of other value) (word_of key v) last))
+      | inr last ↦ differs
+          (one_key key other v value (contains_one (word_of other value) (word_of key v) last))
     ]

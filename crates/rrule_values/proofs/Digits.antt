@@ -30,17 +30,28 @@ module _ {X : Type 0} (p : X → Bool) where
   passes_drop (suc n) [] each = refl
   passes_drop (suc n) (x ∷ xs) each = passes_drop n xs (and_parts (p x) (list_all p xs) each).1
 
-pub digit_at : (digits : List ℕ) (i : ℕ) → list_all is_ascii_digit digits ≡ true → i < length digits → IsInRange 48 57 (get_or digits i 0)
-digit_at digits i each lt = in_range (get_or digits i 0) (AllPass-from_list_all is_ascii_digit digits each i 0 lt)
+pub digit_at : (digits : List ℕ) (i : ℕ) → list_all is_ascii_digit digits ≡ true → i < length digits
+    → IsInRange 48 57 (get_or digits i 0)
+digit_at digits i each lt = in_range (get_or digits i 0)
+    (AllPass-from_list_all is_ascii_digit digits each i 0 lt)
   where
     in_range : (b : ℕ) → is_ascii_digit b ≡ true → IsInRange 48 57 b
     in_range b e = (grind (arith, nat_tests), grind (arith, nat_tests))
 
 -- the number of the first digits
-pub value_short : (digits : List ℕ) (i k : ℕ) → list_all is_ascii_digit digits ≡ true → i ≤ length digits → i ≤ k → digits_value 10 (take i digits) < 10 ^ k
+pub value_short : (digits : List ℕ) (i k : ℕ) → list_all is_ascii_digit digits ≡ true
+    → i ≤ length digits → i ≤ k → digits_value 10 (take i digits) < 10 ^ k
 value_short digits i k each le fits =
-    digits_value_short own (take i digits) k (passes_take is_ascii_digit i digits each) (omega (arith, length-take-le i digits le))
+    digits_value_short own (take i digits) k (passes_take is_ascii_digit i digits each)
+    (omega (arith, length-take-le i digits le))
 
-pub value_step : (digits : List ℕ) (i : ℕ) → list_all is_ascii_digit digits ≡ true → i < length digits
-    → digits_value 10 (take (i + 1) digits) ≡ 10 * digits_value 10 (take i digits) + (get_or digits i 0 - 48)
-value_step digits i each lt = omega (arith, digits_value_more 10 digits i lt, digit_value_digit (get_or digits i 0) (digit_at digits i each lt))
+pub value_step : (digits : List ℕ) (i : ℕ) → list_all is_ascii_digit digits ≡ true
+    → i < length digits
+    → digits_value 10 (take (i + 1) digits) ≡ 10 * digits_value 10 (take i digits) +
+    (get_or digits i 0 - 48)
+value_step digits i each lt = omega (
+  arith,
+  digits_value_more 10 digits i lt,
+  digit_value_digit
+      (get_or digits i 0) (digit_at digits i each lt),
+)

@@ -20,7 +20,11 @@ module _ {X : Type 0} (text : X → List ℕ) (read : List ℕ → Option X) whe
     pub back : read (text x) ≡ Some x
 
   pub word_back : (x : X) → IsWord x → IsBack text read x
-  word_back x w = record { back = w.back; plain = all_weaker word is_value_byte word_plain (text x) w.words }
+  word_back x w = record {
+    back = w.back;
+    plain = all_weaker word is_value_byte word_plain (text x)
+        w.words;
+  }
 
   abbrev pub AreWords : List X → Type 0
   AreWords [] = Unit {0}
@@ -30,12 +34,16 @@ module _ {X : Type 0} (text : X → List ℕ) (read : List ℕ → Option X) whe
   more [] = refl
   more (x ∷ xs) = ap (λ (y : List ℕ). next_text text x ++ y) (more xs)
 
-  all_lack : (xs : List X) → AreWords xs → list_all (λ t. list_all (is_other 44) t) (map text xs) ≡ true
+  all_lack : (xs : List X) → AreWords xs → list_all (λ t. list_all (is_other 44) t) (map text xs)
+      ≡ true
   all_lack [] each = refl
   all_lack (x ∷ xs) each =
-      and_from (list_all (is_other 44) (text x)) (list_all (λ t. list_all (is_other 44) t) (map text xs)) (all_weaker word (is_other 44) no_comma (text x) each.0.words) (all_lack xs each.1)
+      and_from (list_all (is_other 44) (text x)) (list_all (λ t. list_all (is_other 44) t)
+      (map text xs)) (all_weaker word (is_other 44) no_comma (text x) each.0.words)
+      (all_lack xs each.1)
 
-  pub cut : (x : X) (xs : List X) → AreWords (x ∷ xs) → split_at 44 (list_text text (x ∷ xs)) ≡ map text (x ∷ xs)
+  pub cut : (x : X) (xs : List X) → AreWords (x ∷ xs) → split_at 44 (list_text text (x ∷ xs))
+      ≡ map text (x ∷ xs)
   cut x xs each = rw (more xs) (joined_cut 44 (text x) (map text xs) (all_lack (x ∷ xs) each))
 
   pub all_some : (xs : List X) → AreWords xs → list_all (λ t. is_some (read t)) (map text xs) ≡ true
@@ -46,22 +54,29 @@ module _ {X : Type 0} (text : X → List ℕ) (read : List ℕ → Option X) whe
   all_read [] each = refl
   all_read (x ∷ xs) each = rw (each.0.back, all_read xs each.1) refl
 
-  more_plain : (xs : List X) → AreWords xs → list_all is_value_byte (flat_map (next_text text) xs) ≡ true
+  more_plain : (xs : List X) → AreWords xs → list_all is_value_byte (flat_map (next_text text) xs)
+      ≡ true
   more_plain [] each = refl
   more_plain (x ∷ xs) each =
       list_all-append is_value_byte (text x) (flat_map (next_text text) xs)
-      ∙ and_from (list_all is_value_byte (text x)) _ (word_back x each.0).plain (more_plain xs each.1)
+      ∙ and_from (list_all is_value_byte (text x)) _ (word_back x each.0).plain
+      (more_plain xs each.1)
 
-  pub list_plain : (x : X) (xs : List X) → AreWords (x ∷ xs) → list_all is_value_byte (list_text text (x ∷ xs)) ≡ true
+  pub list_plain : (x : X) (xs : List X) → AreWords (x ∷ xs) → list_all is_value_byte
+      (list_text text (x ∷ xs)) ≡ true
   list_plain x xs each =
       list_all-append is_value_byte (text x) (flat_map (next_text text) xs)
-      ∙ and_from (list_all is_value_byte (text x)) _ (word_back x each.0).plain (more_plain xs each.1)
+      ∙ and_from (list_all is_value_byte (text x)) _ (word_back x each.0).plain
+      (more_plain xs each.1)
 
 -- what is written of one more
-pub put_next : {X : Type 0} (text : X → List ℕ) (xs : List X) (i : ℕ) (x : X) (o0 o1 o2 : List ℕ) → x ≡ get_or xs i x → i < length xs
+pub put_next : {X : Type 0} (text : X → List ℕ) (xs : List X) (i : ℕ) (x : X) (o0 o1 o2 : List ℕ)
+    → x ≡ get_or xs i x → i < length xs
     → o1 ≡ o0 ++ flat_map (next_text text) (take i xs) → o2 ≡ o1 ++ next_text text x
     → o2 ≡ o0 ++ flat_map (next_text text) (take (i + 1) xs)
 put_next text xs i x o0 o1 o2 at lt e1 e2 =
-    let more : flat_map (next_text text) (take (i + 1) xs) ≡ flat_map (next_text text) (take i xs) ++ next_text text x =
-    ap (λ ys. flat_map (next_text text) ys) (take_more xs i x lt) ∙ flat_map-append (next_text text) (take i xs) (get_or xs i x ∷ []) ∙ rw (sym at, append-nil (text x)) refl in
+    let more : flat_map (next_text text) (take (i + 1) xs) ≡ flat_map (next_text text) (take i xs)
+    ++ next_text text x =
+    ap (λ ys. flat_map (next_text text) ys) (take_more xs i x lt) ∙ flat_map-append (next_text text)
+    (take i xs) (get_or xs i x ∷ []) ∙ rw (sym at, append-nil (text x)) refl in
     e2 ∙ rw (e1, more) (append_assoc o0 (flat_map (next_text text) (take i xs)) (next_text text x))

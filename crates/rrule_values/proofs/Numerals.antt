@@ -24,7 +24,8 @@ decimal_is n small =
     let high : nat_le (length (decimal n)) 10 ≡ true = grind (arith, nat_tests) in
     rw (low, high) (decimal_digits n (omega arith))
 
-pub digits_back : (minus : Bool) (n : ℕ) → n < 10 ^ 10 → digits_at minus (decimal n) ≡ Some (with_sign minus n)
+pub digits_back : (minus : Bool) (n : ℕ) → n < 10 ^ 10 → digits_at minus (decimal n)
+    ≡ Some (with_sign minus n)
 unfolding digits_at
 digits_back minus n small = rw (decimal_is n small, digits_value-decimal own n (omega arith)) refl
 
@@ -35,16 +36,19 @@ no_minus : (b : ℕ) → is_ascii_digit b ≡ true → (b == 45) ≡ false
 no_minus b digit = grind (arith, nat_tests)
 
 -- digits have no sign in front
-unsigned_back : (signed : Bool) (bytes : List ℕ) → 0 < length bytes → list_all is_ascii_digit bytes ≡ true → number_at signed bytes ≡ digits_at false bytes
+unsigned_back : (signed : Bool) (bytes : List ℕ) → 0 < length bytes → list_all is_ascii_digit bytes
+    ≡ true → number_at signed bytes ≡ digits_at false bytes
 unfolding number_at
 unsigned_back signed [] some each = absurd (omega arith)
 unsigned_back signed (b ∷ bytes) some each =
     let digit = (and_parts (is_ascii_digit b) (list_all is_ascii_digit bytes) each).0 in
     rw (no_plus b digit, no_minus b digit, and_right signed false refl) refl
 
-pub positive_back : (signed : Bool) (n : ℕ) → n < 10 ^ 10 → number_at signed (decimal n) ≡ Some (pos n)
+pub positive_back : (signed : Bool) (n : ℕ) → n < 10 ^ 10 → number_at signed (decimal n)
+    ≡ Some (pos n)
 positive_back signed n small =
-    unsigned_back signed (decimal n) (decimal_nonempty n (omega arith)) (decimal_digits n (omega arith)) ∙ digits_back false n small
+    unsigned_back signed (decimal n) (decimal_nonempty n (omega arith))
+    (decimal_digits n (omega arith)) ∙ digits_back false n small
 
 negative : (n : ℕ) → with_sign true (suc n) ≡ negsuc n
 negative n = grind (arith, ints)

@@ -27,9 +27,17 @@ two n lt = omega (arith, worth (n / 10) (omega arith), worth (n % 10) (omega ari
 
 four : (n : ℕ) → n ≤ 9999 → digits_value 10 (two_digits (n / 100) ++ two_digits (n % 100)) ≡ n
 four n le =
-    omega (arith, worth (n / 100 / 10) (omega arith), worth (n / 100 % 10) (omega arith), worth (n % 100 / 10) (omega arith), worth (n % 100 % 10) (omega arith))
+    omega (
+      arith,
+      worth (n / 100 / 10) (omega arith),
+      worth (n / 100 % 10) (omega arith),
+      worth
+          (n % 100 / 10) (omega arith),
+      worth (n % 100 % 10) (omega arith),
+    )
 
-module _ (y m d h n s : ℕ) (years : y ≤ 9999) (months : m < 100) (days : d < 100) (hours : h < 100) (minutes : n < 100) (seconds : s < 100) where
+module _ (y m d h n s : ℕ) (years : y ≤ 9999) (months : m < 100) (days : d < 100) (hours : h < 100)
+    (minutes : n < 100) (seconds : s < 100) where
   abbrev bare : List ℕ
   bare = fields_text false y m d h n s
 
@@ -77,9 +85,11 @@ module _ (y m d h n s : ℕ) (years : y ≤ 9999) (months : m < 100) (days : d <
   unfolding is_until_text is_date
   form-text = rw (without_z-text, date_time) refl
 
-  moment : named_by (two_digits (y / 100) ++ two_digits (y % 100) ++ two_digits m ++ two_digits d) (two_digits h ++ two_digits n ++ two_digits s) ≡ named y m d h n s
+  moment : named_by (two_digits (y / 100) ++ two_digits (y % 100) ++ two_digits m ++ two_digits d)
+      (two_digits h ++ two_digits n ++ two_digits s) ≡ named y m d h n s
   unfolding named_by
-  moment = rw (four y years, two m months, two d days, two h hours, two n minutes, two s seconds) refl
+  moment = rw (four y years, two m months, two d days, two h hours, two n minutes, two s seconds)
+      refl
 
   at-bare : until_at bare ≡ named y m d h n s
   unfolding until_at is_date
@@ -125,7 +135,8 @@ module _ (y m d h n s : ℕ) (years : y ≤ 9999) (months : m < 100) (days : d <
 
 -- pieces put one behind the other
 pub eight_put : (o0 o1 o2 o3 o4 o5 o6 o7 o8 a1 a2 a3 a4 a5 a6 a7 a8 : List ℕ)
-    → o1 ≡ o0 ++ a1 → o2 ≡ o1 ++ a2 → o3 ≡ o2 ++ a3 → o4 ≡ o3 ++ a4 → o5 ≡ o4 ++ a5 → o6 ≡ o5 ++ a6 → o7 ≡ o6 ++ a7 → o8 ≡ o7 ++ a8
+    → o1 ≡ o0 ++ a1 → o2 ≡ o1 ++ a2 → o3 ≡ o2 ++ a3 → o4 ≡ o3 ++ a4 → o5 ≡ o4 ++ a5 → o6 ≡ o5 ++ a6
+    → o7 ≡ o6 ++ a7 → o8 ≡ o7 ++ a8
     → o8 ≡ o0 ++ (a1 ++ (a2 ++ (a3 ++ (a4 ++ (a5 ++ (a6 ++ (a7 ++ a8)))))))
 eight_put o0 o1 o2 o3 o4 o5 o6 o7 o8 a1 a2 a3 a4 a5 a6 a7 a8 e1 e2 e3 e4 e5 e6 e7 e8 =
     e8 ∙ rw (e7, e6, e5, e4, e3, e2, e1) (simp append_assoc)

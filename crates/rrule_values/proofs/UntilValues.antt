@@ -20,13 +20,18 @@ abs_most (negsuc n) le most = absurd (grind (arith, ints))
 
 -- the fields of a moment name it
 fields_name : (t : ℤ) → IsOfYears t
-    → named (unsigned_abs (year_of (day_of t))) (month_of (day_of t)) (day_of_month (day_of t)) (hour_of t) (minute_of t) (second_of t) ≡ t
+    → named (unsigned_abs (year_of (day_of t))) (month_of (day_of t)) (day_of_month (day_of t))
+    (hour_of t) (minute_of t) (second_of t) ≡ t
 fields_name t within =
     let years = year_within t within in
     let same = abs_same (year_of (day_of t)) years.0 in
-    let civil : IsCivil (pos (unsigned_abs (year_of (day_of t)))) (month_of (day_of t)) (day_of_month (day_of t)) (hour_of t) (minute_of t) (second_of t) = rw same (IsCivil-fields t) in
-    named-civil (unsigned_abs (year_of (day_of t))) (month_of (day_of t)) (day_of_month (day_of t)) (hour_of t) (minute_of t) (second_of t) civil
-    ∙ ap (λ (y : ℤ). seconds_of y (month_of (day_of t)) (day_of_month (day_of t)) (hour_of t) (minute_of t) (second_of t)) same
+    let civil : IsCivil (pos (unsigned_abs (year_of (day_of t)))) (month_of (day_of t))
+    (day_of_month (day_of t)) (hour_of t) (minute_of t) (second_of t) =
+    rw same (IsCivil-fields t) in
+    named-civil (unsigned_abs (year_of (day_of t))) (month_of (day_of t)) (day_of_month (day_of t))
+    (hour_of t) (minute_of t) (second_of t) civil
+    ∙ ap (λ (y : ℤ). seconds_of y (month_of (day_of t)) (day_of_month (day_of t)) (hour_of t)
+    (minute_of t) (second_of t)) same
     ∙ seconds_of-fields t
 
 pub until_back : UntilsAreOfYears → (z : Bool) (m : Moment) → is_until m ≡ true → IsUntilBack z m
@@ -37,6 +42,15 @@ until_back of_years z m fine =
     let years = year_within t within in
     let civil = IsCivil-fields t in
     let most = part_bounds (day_of t) in
-    let read = is_read (unsigned_abs (year_of (day_of t))) (month_of (day_of t)) (day_of_month (day_of t)) (hour_of t) (minute_of t) (second_of t)
-    (abs_most (year_of (day_of t)) years.0 years.1) (omega (arith, civil.0.1)) (omega (arith, most.3)) (omega (arith, civil.2.1)) (omega (arith, civil.3.1)) (omega (arith, civil.4.1)) z in
-    record { formed = read.form; back = read.at ∙ fields_name t within; zone = read.zone; plain = read.plain }
+    let read = is_read (unsigned_abs (year_of (day_of t))) (month_of (day_of t))
+    (day_of_month (day_of t)) (hour_of t) (minute_of t) (second_of t)
+    (abs_most (year_of (day_of t)) years.0 years.1) (omega (arith, civil.0.1))
+    (omega (arith, most.3)) (omega (arith, civil.2.1)) (omega (arith, civil.3.1))
+    (omega (arith, civil.4.1)) z in
+    record {
+      formed = read.form;
+      back = read.at ∙ fields_name t within;
+      zone = read.zone;
+      plain =
+          read.plain;
+    }

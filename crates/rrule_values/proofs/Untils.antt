@@ -22,9 +22,11 @@ passes month day days hour minute second =
 
 abbrev AreCivil : (month day days hour minute second : ℕ) → Type 0
 AreCivil month day days hour minute second =
-    IsInRange 1 12 month × IsInRange 1 days day × IsInRange 0 23 hour × IsInRange 0 59 minute × IsInRange 0 59 second
+    IsInRange 1 12 month × IsInRange 1 days day × IsInRange 0 23 hour × IsInRange 0 59 minute
+    × IsInRange 0 59 second
 
-says : (month day days hour minute second : ℕ) → passes month day days hour minute second ≡ true → AreCivil month day days hour minute second
+says : (month day days hour minute second : ℕ) → passes month day days hour minute second ≡ true
+    → AreCivil month day days hour minute second
 says month day days hour minute second e = (
   (grind (arith, nat_tests), grind (arith, nat_tests)),
   (grind (arith, nat_tests), grind (arith, nat_tests)),
@@ -33,7 +35,8 @@ says month day days hour minute second e = (
   (omega arith, grind (arith, nat_tests)),
 )
 
-said : (month day days hour minute second : ℕ) → AreCivil month day days hour minute second → passes month day days hour minute second ≡ true
+said : (month day days hour minute second : ℕ) → AreCivil month day days hour minute second
+    → passes month day days hour minute second ≡ true
 said month day days hour minute second h =
     let a = h.0.0 in
     let b = h.0.1 in
@@ -51,39 +54,53 @@ module _ (year month day hour minute second : ℕ) where
   leap_same : is_leap (pos year -ℤ pos 400) ≡ is_leap (pos year)
   leap_same = sym (is_leap-cycle (pos year -ℤ pos 400)) ∙ ap is_leap earlier
 
-  cycle : seconds_of (pos year -ℤ pos 400) month day hour minute second +ℤ pos G ≡ seconds_of (pos year) month day hour minute second
+  cycle : seconds_of (pos year -ℤ pos 400) month day hour minute second +ℤ pos G
+      ≡ seconds_of (pos year) month day hour minute second
   unfolding day_number
   cycle =
-      let first : first_day (pos year) ≡ first_day (pos year -ℤ pos 400) +ℤ pos 146_097 = ap first_day (sym earlier) ∙ first_day-cycle (pos year -ℤ pos 400) in
+      let first : first_day (pos year) ≡ first_day (pos year -ℤ pos 400) +ℤ pos 146_097 =
+      ap first_day (sym earlier) ∙ first_day-cycle (pos year -ℤ pos 400) in
       rw (leap_same, first) (omega (arith, floor_arith))
 
-  pub named-civil : IsCivil (pos year) month day hour minute second → named year month day hour minute second ≡ seconds_of (pos year) month day hour minute second
+  pub named-civil : IsCivil (pos year) month day hour minute second → named year month day hour
+      minute second ≡ seconds_of (pos year) month day hour minute second
   unfolding named
-  named-civil civil = rw (said month day (month_len (is_leap (pos year)) month) hour minute second civil) refl
+  named-civil civil = rw (said month day (month_len (is_leap (pos year)) month) hour minute second
+      civil) refl
 
   module _ (early : ℤ) (is_early : early ≡ pos year -ℤ pos 400) where
     pub named-found : IsCivil early month day hour minute second
-        → seconds_of early month day hour minute second +ℤ pos G ≡ named year month day hour minute second
+        → seconds_of early month day hour minute second +ℤ pos G ≡ named year month day hour minute
+        second
     named-found civil =
-        let there : IsCivil (pos year -ℤ pos 400) month day hour minute second = rw is_early at civil in
+        let there : IsCivil (pos year -ℤ pos 400) month day hour minute second =
+        rw is_early at civil in
         let here : IsCivil (pos year) month day hour minute second = rw leap_same at there in
         rw is_early (cycle ∙ sym (named-civil here))
 
-    pub named-lost : year ≤ 9999 → (IsCivil early month day hour minute second × IsWorkingMoment (seconds_of early month day hour minute second) → ⊥)
+    pub named-lost : year ≤ 9999 → (IsCivil early month day hour minute second
+        × IsWorkingMoment (seconds_of early month day hour minute second) → ⊥)
         → named year month day hour minute second ≡ past_the_years
     unfolding named
     named-lost le none = by_test (is_civil year month day hour minute second) refl
       where
-        working : IsCivil (pos year -ℤ pos 400) month day hour minute second → IsWorkingMoment (seconds_of (pos year -ℤ pos 400) month day hour minute second)
+        working : IsCivil (pos year -ℤ pos 400) month day hour minute second
+            → IsWorkingMoment (seconds_of (pos year -ℤ pos 400) month day hour minute second)
         working civil =
-            let y = (fields-of_seconds (pos year -ℤ pos 400) month day hour minute second civil).0 in
-            let calendar = IsCalendarMoment-of_years (seconds_of (pos year -ℤ pos 400) month day hour minute second) (rw y (omega (arith, floor_arith), omega (arith, floor_arith))) in
+            let y = (fields-of_seconds (pos year -ℤ pos 400) month day hour minute second
+            civil).0 in
+            let calendar = IsCalendarMoment-of_years (seconds_of (pos year -ℤ pos 400) month day
+            hour minute second) (rw y (omega (arith, floor_arith), omega (arith, floor_arith))) in
             (omega (arith, floor_arith, calendar.0), omega (arith, floor_arith, calendar.1))
 
-        by_test : (b : Bool) → is_civil year month day hour minute second ≡ b → (if b then seconds_of (pos year) month day hour minute second else past_the_years) ≡ past_the_years
+        by_test : (b : Bool) → is_civil year month day hour minute second ≡ b
+            → (if b then seconds_of (pos year) month day hour minute second else past_the_years)
+            ≡ past_the_years
         by_test true e =
-            let civil : IsCivil (pos year) month day hour minute second = says month day (month_len (is_leap (pos year)) month) hour minute second e in
-            let back : IsCivil (pos year -ℤ pos 400) month day hour minute second = rw (sym leap_same) at civil in
+            let civil : IsCivil (pos year) month day hour minute second =
+            says month day (month_len (is_leap (pos year)) month) hour minute second e in
+            let back : IsCivil (pos year -ℤ pos 400) month day hour minute second =
+            rw (sym leap_same) at civil in
             absurd (none (rw is_early (back, working back)))
         by_test false e = refl
 
@@ -114,7 +131,8 @@ year_days : (first_day (pos 0) ≡ neg_ℤ (pos 719_528)) × (first_day (pos 10_
 unfolding first_day days_of_years is_leap
 year_days = (refl, refl)
 
-pub year_within : (t : ℤ) → IsOfYears t → (pos 0 ≤ℤ year_of (day_of t)) × (year_of (day_of t) ≤ℤ pos 9999)
+pub year_within : (t : ℤ) → IsOfYears t → (pos 0 ≤ℤ year_of (day_of t))
+    × (year_of (day_of t) ≤ℤ pos 9999)
 year_within t within = (
   year_of-from (day_of t) (pos 0) (rw year_days.0 (omega (arith, floor_arith, within.0))),
   year_of-below (day_of t) (pos 9999) (rw year_days.1 (omega (arith, floor_arith, within.1))),
@@ -132,5 +150,8 @@ small_abs : (z : ℤ) → neg_ℤ (pos 400) ≤ℤ z → z ≤ℤ pos 9599 → u
 small_abs (pos n) low high = let le : n ≤ 9599 = grind (arith, ints) in omega arith
 small_abs (negsuc n) low high = let le : suc n ≤ 400 = grind (arith, ints) in omega arith
 
-pub year_fits : (early : ℤ) (year : ℕ) → early ≡ pos year -ℤ pos 400 → year ≤ 9999 → to_z w32 (of_z w32 early) ≡ early
-year_fits early year e le = to_z-of_z w32 early (fits_signed_from_abs w32 early (small_abs early (omega (arith, ints)) (omega (arith, ints))))
+pub year_fits : (early : ℤ) (year : ℕ) → early ≡ pos year -ℤ pos 400 → year ≤ 9999
+    → to_z w32 (of_z w32 early) ≡ early
+year_fits early year e le =
+    to_z-of_z w32 early
+    (fits_signed_from_abs w32 early (small_abs early (omega (arith, ints)) (omega (arith, ints))))

@@ -45,19 +45,27 @@ weekday_back day within =
 
 few_digits : (signed : Bool) (n : ℤ) → has_form signed n ≡ true → unsigned_abs n < 10 ^ 10
 few_digits true (pos k) within = let le : k ≤ 9_999_999_999 = grind (arith, ints) in omega arith
-few_digits true (negsuc k) within = let le : suc k ≤ 9_999_999_999 = grind (arith, ints) in omega arith
+few_digits true (negsuc k) within = let le : suc k ≤ 9_999_999_999 = grind (arith, ints) in
+    omega arith
 few_digits false (pos k) within = let le : k ≤ 9_999_999_999 = grind (arith, ints) in omega arith
 few_digits false (negsuc k) within = absurd (grind (arith, ints))
 
-number_word : (signed : Bool) (n : ℤ) → has_form signed n ≡ true → IsWord signed_decimal (number_at signed) n
-number_word signed n within = record { words = signed_words n (few_digits signed n within); back = read signed n within (few_digits signed n within) }
+number_word : (signed : Bool) (n : ℤ) → has_form signed n ≡ true → IsWord signed_decimal
+    (number_at signed) n
+number_word signed n within = record {
+  words = signed_words n (few_digits signed n within);
+  back =
+      read signed n within (few_digits signed n within);
+}
   where
-    read : (signed : Bool) (n : ℤ) → has_form signed n ≡ true → unsigned_abs n < 10 ^ 10 → number_at signed (signed_decimal n) ≡ Some n
+    read : (signed : Bool) (n : ℤ) → has_form signed n ≡ true → unsigned_abs n < 10 ^ 10
+        → number_at signed (signed_decimal n) ≡ Some n
     read true n within few = number_back n few
     read false (pos k) within few = positive_back false k few
     read false (negsuc k) within few = absurd (grind (arith, ints))
 
-number_words : (signed : Bool) (ns : List ℤ) → list_all (has_form signed) ns ≡ true → AreWords signed_decimal (number_at signed) ns
+number_words : (signed : Bool) (ns : List ℤ) → list_all (has_form signed) ns ≡ true
+    → AreWords signed_decimal (number_at signed) ns
 number_words signed [] each = tt
 number_words signed (n ∷ ns) each =
     let both = and_parts (has_form signed n) (list_all (has_form signed) ns) each in
@@ -71,7 +79,8 @@ numbers_back signed n ns each =
     let parts = cut signed_decimal (number_at signed) n ns words in
     record {
       formed = rw parts (all_some signed_decimal (number_at signed) (n ∷ ns) words);
-      back = λ ordered. rw (parts, all_read signed_decimal (number_at signed) (n ∷ ns) words) (ordered_same int_lt (n ∷ ns) ordered);
+      back = λ ordered. rw (parts, all_read signed_decimal (number_at signed) (n ∷ ns) words)
+          (ordered_same int_lt (n ∷ ns) ordered);
       plain = list_plain signed_decimal (number_at signed) n ns words;
     }
 
@@ -80,15 +89,20 @@ numbers_back signed n ns each =
 abbrev is_short : DayItem → Bool
 is_short item = has_form true item.nth
 
-item_all_words : (items : List DayItem) → AreWeekdays items → list_all is_short items ≡ true → AreWords item_text item_at items
+item_all_words : (items : List DayItem) → AreWeekdays items → list_all is_short items ≡ true
+    → AreWords item_text item_at items
 item_all_words [] days each = tt
 item_all_words (item ∷ items) days each =
     let both = and_parts (is_short item) (list_all is_short items) each in
     let day = days 0 item (omega arith) in
-    let few = few_digits true item.nth both.0 in
-    (record { words = item_words item day few; back = item_back item day few }, item_all_words items (λ k d lt. days (suc k) d (omega arith)) both.1)
+    let few = few_digits true item.nth both.0 in (
+      record { words = item_words item day few; back = item_back item day few },
+      item_all_words items
+          (λ k d lt. days (suc k) d (omega arith)) both.1,
+    )
 
-items_back : (item : DayItem) (items : List DayItem) → AreWeekdays (item ∷ items) → list_all is_short (item ∷ items) ≡ true
+items_back : (item : DayItem) (items : List DayItem) → AreWeekdays (item ∷ items)
+    → list_all is_short (item ∷ items) ≡ true
     → IsListBack is_before item_text are_items items_in (item ∷ items)
 unfolding items_in written_items
 items_back item items days each =
@@ -96,7 +110,8 @@ items_back item items days each =
     let parts = cut item_text item_at item items words in
     record {
       formed = rw parts (all_some item_text item_at (item ∷ items) words);
-      back = λ ordered. rw (parts, all_read item_text item_at (item ∷ items) words) (ordered_same is_before (item ∷ items) ordered);
+      back = λ ordered. rw (parts, all_read item_text item_at (item ∷ items) words)
+          (ordered_same is_before (item ∷ items) ordered);
       plain = list_plain item_text item_at item items words;
     }
 
@@ -104,7 +119,8 @@ pub values_back : UntilsAreOfYears → ValuesAreBack
 values_back of_years = record {
   frequency = freq_back;
   weekday = weekday_back;
-  number = λ signed n within. word_back signed_decimal (number_at signed) n (number_word signed n within);
+  number = λ signed n within. word_back signed_decimal (number_at signed) n
+      (number_word signed n within);
   numbers = numbers_back;
   items = items_back;
   until = until_back of_years;
@@ -115,7 +131,8 @@ values_back of_years = record {
 int_follows : (a b c : ℤ) → int_lt a b ≡ true → int_lt b c ≡ true → int_lt a c ≡ true
 int_follows a b c e f = grind (arith, ints)
 
-item_follows : (a b c : DayItem) → is_before a b ≡ true → is_before b c ≡ true → is_before a c ≡ true
+item_follows : (a b c : DayItem) → is_before a b ≡ true → is_before b c ≡ true → is_before a c
+    ≡ true
 unfolding is_before
 item_follows a b c e f = grind (arith, nat_tests, ints)
 
@@ -139,7 +156,8 @@ abbrev PassesIf : {X : Type 0} → (X → Bool) → Option X → Type 0
 PassesIf p None = Unit {0}
 PassesIf p (Some x) = p x ≡ true
 
-choose : (b : Bool) (n : ℕ) (rest : Option ℕ) → in_week n ≡ true → PassesIf in_week rest → PassesIf in_week (if b then Some n else rest)
+choose : (b : Bool) (n : ℕ) (rest : Option ℕ) → in_week n ≡ true → PassesIf in_week rest
+    → PassesIf in_week (if b then Some n else rest)
 choose true n rest own others = own
 choose false n rest own others = others
 
@@ -156,19 +174,26 @@ day_in_week name =
 
 item_in_week : (bytes : List ℕ) → PassesIf is_in_week (item_at bytes)
 unfolding item_at
-item_in_week bytes = by_length (nat_le 2 (length bytes)) (ordinal_at (take (length bytes - 2) bytes)) (day_named (drop (length bytes - 2) bytes)) (day_in_week (drop (length bytes - 2) bytes))
+item_in_week bytes = by_length (nat_le 2 (length bytes))
+    (ordinal_at (take (length bytes - 2) bytes)) (day_named (drop (length bytes - 2) bytes))
+    (day_in_week (drop (length bytes - 2) bytes))
   where
-    by_length : (b : Bool) (nth : Option ℤ) (day : Option ℕ) → PassesIf in_week day → PassesIf is_in_week (if b then item_with nth day else None)
+    by_length : (b : Bool) (nth : Option ℤ) (day : Option ℕ) → PassesIf in_week day
+        → PassesIf is_in_week (if b then item_with nth day else None)
     by_length true None day h = tt
     by_length true (Some nth) None h = tt
     by_length true (Some nth) (Some day) h = h
     by_length false nth day h = tt
 
-found_pass : {X : Type 0} (p : X → Bool) (read : List ℕ → Option X) → ((text : List ℕ) → PassesIf p (read text)) → (texts : List (List ℕ)) → list_all p (filter_map read texts) ≡ true
+found_pass : {X : Type 0} (p : X → Bool) (read : List ℕ → Option X)
+    → ((text : List ℕ) → PassesIf p (read text)) → (texts : List (List ℕ))
+    → list_all p (filter_map read texts) ≡ true
 found_pass p read each [] = refl
-found_pass {X} p read each (text ∷ texts) = by_found (read text) (filter_map read texts) (each text) (found_pass p read each texts)
+found_pass {X} p read each (text ∷ texts) = by_found (read text) (filter_map read texts) (each text)
+    (found_pass p read each texts)
   where
-    by_found : (found : Option X) (xs : List X) → PassesIf p found → list_all p xs ≡ true → list_all p (cons_option found xs) ≡ true
+    by_found : (found : Option X) (xs : List X) → PassesIf p found → list_all p xs ≡ true
+        → list_all p (cons_option found xs) ≡ true
     by_found None xs h others = others
     by_found (Some x) xs h others = and_from (p x) (list_all p xs) h others
 
@@ -177,10 +202,13 @@ week_range d e = (grind (arith, nat_tests), grind (arith, nat_tests))
 
 items_in_week : (value : List ℕ) → list_all is_in_week (items_in value) ≡ true
 unfolding items_in written_items
-items_in_week value = all_pass is_before is_in_week [] (written_items value) refl (found_pass is_in_week item_at item_in_week (split_at 44 value))
+items_in_week value = all_pass is_before is_in_week [] (written_items value) refl
+    (found_pass is_in_week item_at item_in_week (split_at 44 value))
 
 pub items_weekdays : ItemsAreWeekdays
-items_weekdays value = λ k d lt. week_range _ (AllPass-from_list_all is_in_week (items_in value) (items_in_week value) k d lt)
+items_weekdays value =
+    λ k d lt. week_range _ (AllPass-from_list_all is_in_week (items_in value) (items_in_week value)
+    k d lt)
 
 pub names_weekdays : NamesAreWeekdays
 names_weekdays name day found = week_range day (rw found at (day_in_week name))

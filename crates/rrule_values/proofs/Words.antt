@@ -35,7 +35,8 @@ digit_word : (b : ℕ) → is_ascii_digit b ≡ true → word b ≡ true
 digit_word b h = grind (arith, nat_tests)
 
 pub decimal_words : (n : ℕ) → n < 2 ^ 64 → list_all word (decimal n) ≡ true
-decimal_words n small = all_weaker is_ascii_digit word digit_word (decimal n) (decimal_digits n small)
+decimal_words n small = all_weaker is_ascii_digit word digit_word (decimal n)
+    (decimal_digits n small)
 
 pub signed_words : (z : ℤ) → unsigned_abs z < 10 ^ 10 → list_all word (signed_decimal z) ≡ true
 signed_words (pos n) small = decimal_words n (omega arith)
@@ -59,11 +60,22 @@ day_is (suc (suc zero)) h = record { named = refl; two = refl; words = refl }
 day_is (suc (suc (suc zero))) h = record { named = refl; two = refl; words = refl }
 day_is (suc (suc (suc (suc zero)))) h = record { named = refl; two = refl; words = refl }
 day_is (suc (suc (suc (suc (suc zero))))) h = record { named = refl; two = refl; words = refl }
-day_is (suc (suc (suc (suc (suc (suc zero)))))) h = record { named = refl; two = refl; words = refl }
-day_is (suc (suc (suc (suc (suc (suc (suc zero))))))) h = record { named = refl; two = refl; words = refl }
+day_is (suc (suc (suc (suc (suc (suc zero)))))) h = record {
+  named = refl;
+  two = refl;
+  words =
+      refl;
+}
+day_is (suc (suc (suc (suc (suc (suc (suc zero))))))) h = record {
+  named = refl;
+  two = refl;
+  words =
+      refl;
+}
 day_is (suc (suc (suc (suc (suc (suc (suc (suc n)))))))) h = absurd (omega (arith, h.1))
 
-ordinal_some : (bytes : List ℕ) (z : ℤ) → 0 < length bytes → number_at true bytes ≡ Some z → int_eq z (pos 0) ≡ false → ordinal_at bytes ≡ Some z
+ordinal_some : (bytes : List ℕ) (z : ℤ) → 0 < length bytes → number_at true bytes ≡ Some z
+    → int_eq z (pos 0) ≡ false → ordinal_at bytes ≡ Some z
 unfolding ordinal_at
 ordinal_some [] z some read nonzero = absurd (omega arith)
 ordinal_some (b ∷ bytes) z some read nonzero = rw (read, nonzero) refl
@@ -71,33 +83,44 @@ ordinal_some (b ∷ bytes) z some read nonzero = rw (read, nonzero) refl
 abbrev ordinal_text : Bool → ℤ → List ℕ
 ordinal_text zeroth z = if zeroth then [] else signed_decimal z
 
-ordinal_back : (zeroth : Bool) (z : ℤ) → int_eq z (pos 0) ≡ zeroth → unsigned_abs z < 10 ^ 10 → ordinal_at (ordinal_text zeroth z) ≡ Some z
+ordinal_back : (zeroth : Bool) (z : ℤ) → int_eq z (pos 0) ≡ zeroth → unsigned_abs z < 10 ^ 10
+    → ordinal_at (ordinal_text zeroth z) ≡ Some z
 unfolding ordinal_at
 ordinal_back true z is small = ap (λ (y : ℤ). Some y) (zero_is z is)
   where
     zero_is : (z : ℤ) → int_eq z (pos 0) ≡ true → pos 0 ≡ z
     zero_is z e = grind (arith, ints)
-ordinal_back false z is small = ordinal_some (signed_decimal z) z (signed_some z small) (number_back z small) is
+ordinal_back false z is small = ordinal_some (signed_decimal z) z (signed_some z small)
+    (number_back z small) is
 
-ordinal_words : (zeroth : Bool) (z : ℤ) → unsigned_abs z < 10 ^ 10 → list_all word (ordinal_text zeroth z) ≡ true
+ordinal_words : (zeroth : Bool) (z : ℤ) → unsigned_abs z < 10 ^ 10
+    → list_all word (ordinal_text zeroth z) ≡ true
 ordinal_words true z small = refl
 ordinal_words false z small = signed_words z small
 
 -- a name of two letters behind its ordinal
-item_read : (front name : List ℕ) (nth : ℤ) (d : ℕ) → length name ≡ 2 → ordinal_at front ≡ Some nth → day_named name ≡ Some d → item_at (front ++ name) ≡ Some (record { nth = nth; day = d })
+item_read : (front name : List ℕ) (nth : ℤ) (d : ℕ) → length name ≡ 2 → ordinal_at front ≡ Some nth
+    → day_named name ≡ Some d → item_at (front ++ name) ≡ Some (record { nth = nth; day = d })
 unfolding item_at
 item_read front name nth d two ordinal named =
-    let total : length (front ++ name) ≡ length front + 2 = omega (arith, length-append front name) in
+    let total : length (front ++ name) ≡ length front + 2 =
+    omega (arith, length-append front name) in
     let enough : nat_le 2 (length (front ++ name)) ≡ true = grind (arith, nat_tests) in
     let less : length (front ++ name) - 2 ≡ length front = omega arith in
     rw (enough, less, take-append_seam front name, drop-append_seam front name, ordinal, named) refl
 
-pub item_back : (item : DayItem) → IsInRange 1 7 item.day → unsigned_abs item.nth < 10 ^ 10 → item_at (item_text item) ≡ Some item
+pub item_back : (item : DayItem) → IsInRange 1 7 item.day → unsigned_abs item.nth < 10 ^ 10
+    → item_at (item_text item) ≡ Some item
 item_back item within small =
     let day = day_is item.day within in
-    item_read _ (day_name item.day) item.nth item.day day.two (ordinal_back (int_eq item.nth (pos 0)) item.nth refl small) day.named
+    item_read _ (day_name item.day) item.nth item.day day.two
+    (ordinal_back (int_eq item.nth (pos 0)) item.nth refl small) day.named
 
-pub item_words : (item : DayItem) → IsInRange 1 7 item.day → unsigned_abs item.nth < 10 ^ 10 → list_all word (item_text item) ≡ true
+pub item_words : (item : DayItem) → IsInRange 1 7 item.day → unsigned_abs item.nth < 10 ^ 10
+    → list_all word (item_text item) ≡ true
 item_words item within small =
     let day = day_is item.day within in
-    list_all-append word (ordinal_text (int_eq item.nth (pos 0)) item.nth) (day_name item.day) ∙ and_from (list_all word (ordinal_text (int_eq item.nth (pos 0)) item.nth)) (list_all word (day_name item.day)) (ordinal_words (int_eq item.nth (pos 0)) item.nth small) day.words
+    list_all-append word (ordinal_text (int_eq item.nth (pos 0)) item.nth) (day_name item.day)
+    ∙ and_from (list_all word (ordinal_text (int_eq item.nth (pos 0)) item.nth))
+    (list_all word (day_name item.day)) (ordinal_words (int_eq item.nth (pos 0)) item.nth small)
+    day.words

@@ -37,17 +37,21 @@ not_false : (b : Bool) → not b ≡ false → b ≡ true
 not_false true e = refl
 not_false false e = absurd cc
 
-no_head : {X : Type 0} (b : Bool) (x : X) (rest : Option X) → (if b then Some x else rest) ≡ None → (b ≡ false) × (rest ≡ None)
+no_head : {X : Type 0} (b : Bool) (x : X) (rest : Option X) → (if b then Some x else rest) ≡ None
+    → (b ≡ false) × (rest ≡ None)
 no_head true x rest e = absurd cc
 no_head false x rest e = (refl, e)
 
 -- what isn't found fails at each place
-found_none : {X : Type 0} (p : X → Bool) (xs : List X) (k : ℕ) (d : X) → find p xs ≡ None → k < length xs → p (get_or xs k d) ≡ false
+found_none : {X : Type 0} (p : X → Bool) (xs : List X) (k : ℕ) (d : X) → find p xs ≡ None
+    → k < length xs → p (get_or xs k d) ≡ false
 found_none p [] k d none lt = absurd (omega arith)
 found_none p (x ∷ xs) zero d none lt = (no_head (p x) x (find p xs) none).0
-found_none p (x ∷ xs) (suc k) d none lt = found_none p xs k d (no_head (p x) x (find p xs) none).1 (omega arith)
+found_none p (x ∷ xs) (suc k) d none lt = found_none p xs k d (no_head (p x) x (find p xs) none).1
+    (omega arith)
 
-each_passes : {X : Type 0} (p : X → Bool) (xs : List X) → list_any (λ x. not (p x)) xs ≡ false → list_all p xs ≡ true
+each_passes : {X : Type 0} (p : X → Bool) (xs : List X) → list_any (λ x. not (p x)) xs ≡ false
+    → list_all p xs ≡ true
 each_passes p [] e = refl
 each_passes p (x ∷ xs) e =
     let both = or_parts (not (p x)) (list_any (λ y. not (p y)) xs) e in
@@ -67,7 +71,8 @@ no_fault r e =
     record {
       mixed = map_none (BadMix (part_of r.freq)) (first_mixed r) first.0;
       bad = map_none BadValue (first_bad r) third.0;
-      interval = not_false (is_interval r.interval) (where_none (not (is_interval r.interval)) BadInterval third.1);
+      interval = not_false (is_interval r.interval) (where_none (not (is_interval r.interval))
+          BadInterval third.1);
     }
 
 mixed_none : (r : FieldRule) (key : Part) → first_mixed r ≡ None → is_mixed r key ≡ false
@@ -98,7 +103,8 @@ field_keys_fit r key e = mixed_none r key (no_fault r e).mixed
 pub field_values_fit : FieldValuesFit
 field_values_fit r key e =
     AllPass-from_list_all (is_in_range (counted r) key) (values_of r key)
-    (each_passes (is_in_range (counted r) key) (values_of r key) (bad_none r key (no_fault r e).bad))
+    (each_passes (is_in_range (counted r) key) (values_of r key)
+    (bad_none r key (no_fault r e).bad))
 
 pub field_interval_fits : FieldIntervalFits
 field_interval_fits r e = (no_fault r e).interval
@@ -115,24 +121,37 @@ no_ical_fault r e =
     let first = or_none (first_fault (mixes_of r)) _ (judged_ok _ e) in
     let second = or_none (option_map BadValue (first_bad_part r)) _ first.1 in
     record {
-      mixes = map_none (λ (mix : Bool × RuleFault). mix.1) (find (λ (mix : Bool × RuleFault). mix.0) (mixes_of r)) first.0;
+      mixes = map_none (λ (mix : Bool × RuleFault). mix.1) (find (λ (mix : Bool × RuleFault). mix.0)
+          (mixes_of r)) first.0;
       bad = map_none BadValue (first_bad_part r) second.0;
-      interval = not_false (is_interval r.interval) (where_none (not (is_interval r.interval)) BadInterval second.1);
+      interval = not_false (is_interval r.interval) (where_none (not (is_interval r.interval))
+          BadInterval second.1);
     }
 
 bad_part_none : (r : IcalRule) (part : Part) → first_bad_part r ≡ None → is_bad_part r part ≡ false
 unfolding first_bad_part is_bad_part
-bad_part_none r parts.Until none = found_none (is_bad_part r) ranged 0 parts.Until none (omega arith)
-bad_part_none r parts.Count none = found_none (is_bad_part r) ranged 1 parts.Until none (omega arith)
-bad_part_none r parts.ByMonth none = found_none (is_bad_part r) ranged 2 parts.Until none (omega arith)
-bad_part_none r parts.ByWeekNo none = found_none (is_bad_part r) ranged 3 parts.Until none (omega arith)
-bad_part_none r parts.ByYearDay none = found_none (is_bad_part r) ranged 4 parts.Until none (omega arith)
-bad_part_none r parts.ByMonthDay none = found_none (is_bad_part r) ranged 5 parts.Until none (omega arith)
-bad_part_none r parts.ByDay none = found_none (is_bad_part r) ranged 6 parts.Until none (omega arith)
-bad_part_none r parts.ByHour none = found_none (is_bad_part r) ranged 7 parts.Until none (omega arith)
-bad_part_none r parts.ByMinute none = found_none (is_bad_part r) ranged 8 parts.Until none (omega arith)
-bad_part_none r parts.BySecond none = found_none (is_bad_part r) ranged 9 parts.Until none (omega arith)
-bad_part_none r parts.BySetPos none = found_none (is_bad_part r) ranged 10 parts.Until none (omega arith)
+bad_part_none r parts.Until none = found_none (is_bad_part r) ranged 0 parts.Until none
+    (omega arith)
+bad_part_none r parts.Count none = found_none (is_bad_part r) ranged 1 parts.Until none
+    (omega arith)
+bad_part_none r parts.ByMonth none = found_none (is_bad_part r) ranged 2 parts.Until none
+    (omega arith)
+bad_part_none r parts.ByWeekNo none = found_none (is_bad_part r) ranged 3 parts.Until none
+    (omega arith)
+bad_part_none r parts.ByYearDay none = found_none (is_bad_part r) ranged 4 parts.Until none
+    (omega arith)
+bad_part_none r parts.ByMonthDay none = found_none (is_bad_part r) ranged 5 parts.Until none
+    (omega arith)
+bad_part_none r parts.ByDay none = found_none (is_bad_part r) ranged 6 parts.Until none
+    (omega arith)
+bad_part_none r parts.ByHour none = found_none (is_bad_part r) ranged 7 parts.Until none
+    (omega arith)
+bad_part_none r parts.ByMinute none = found_none (is_bad_part r) ranged 8 parts.Until none
+    (omega arith)
+bad_part_none r parts.BySecond none = found_none (is_bad_part r) ranged 9 parts.Until none
+    (omega arith)
+bad_part_none r parts.BySetPos none = found_none (is_bad_part r) ranged 10 parts.Until none
+    (omega arith)
 bad_part_none r part none = refl
 
 pub ical_values_fit : IcalValuesFit
@@ -140,7 +159,8 @@ ical_values_fit r part e = bad_part_none r part (no_ical_fault r e).bad
 
 pub ical_parts_fit : IcalPartsFit
 ical_parts_fit r e =
-    λ k d lt. let fails = found_none (λ (mix : Bool × RuleFault). mix.0) (mixes_of r) k d (no_ical_fault r e).mixes lt in rw fails refl
+    λ k d lt. let fails = found_none (λ (mix : Bool × RuleFault). mix.0) (mixes_of r) k d
+    (no_ical_fault r e).mixes lt in rw fails refl
 
 pub ical_interval_fits : IcalIntervalFits
 ical_interval_fits r e = (no_ical_fault r e).interval

@@ -19,4 +19,5 @@ within low high z e = (grind (arith, ints), grind (arith, ints))
 
 pub untils_are_of_years : UntilsAreOfYears
 unfolding is_until
-untils_are_of_years m e = within (neg_ℤ (pos 62_167_219_200)) (pos 253_402_300_799) m.0 (rw (first_until, last_until) at e)
+untils_are_of_years m e = within (neg_ℤ (pos 62_167_219_200)) (pos 253_402_300_799) m.0
+    (rw (first_until, last_until) at e)

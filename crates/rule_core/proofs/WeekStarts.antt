@@ -12,7 +12,8 @@ use Rattle.rule_core.proofs.Checked.{field_values_fit}
 weekday_within : (n : ℤ) → is_within (pos 1) (pos 7) n ≡ true → IsInRange 1 7 (unsigned_abs n)
 weekday_within n e = (grind (arith, ints), grind (arith, ints))
 
-given_within : (first : Option ℤ) → ((n : ℤ) → first ≡ Some n → is_within (pos 1) (pos 7) n ≡ true) → IsInRange 1 7 (first_weekday first)
+given_within : (first : Option ℤ) → ((n : ℤ) → first ≡ Some n → is_within (pos 1) (pos 7) n ≡ true)
+    → IsInRange 1 7 (first_weekday first)
 given_within None h = (omega arith, omega arith)
 given_within (Some n) h = weekday_within n (h n refl)
 

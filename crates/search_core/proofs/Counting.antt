@@ -135,7 +135,8 @@ pub count_between-never : (a b : ℤ) → count_between (λ q. false) a b ≡ 0
 unfolding count_between
 count_between-never a b = count_from-never a (int_gap a (b +ℤ pos 1))
 
-pub count_between-parts : (test : ℤ → Bool) (a m b : ℤ) → count_between test a b ≤ count_between test a
+pub count_between-parts : (test : ℤ → Bool) (a m b : ℤ) → count_between test a b ≤ count_between
+    test a
     m + count_between test (m +ℤ pos 1) b
 count_between-parts test a m b = elim (cases_sign (m +ℤ pos 1 -ℤ a)) [
   | inl past ↦ elim (cases_sign (b -ℤ m)) [
@@ -264,7 +265,8 @@ both_covered f g m n a b h k =
     let either = count_between-either f g a b in
     omega arith
 
-pub earlier_covered : (test : ℤ → Bool) (count : ℤ → ℤ → ℕ) (s a b : ℤ) → count_between test (a -ℤ s)
+pub earlier_covered : (test : ℤ → Bool) (count : ℤ → ℤ → ℕ) (s a b : ℤ)
+    → count_between test (a -ℤ s)
     (b -ℤ s) ≤ count (a -ℤ s) (b -ℤ s) → count_between (λ q. test (q -ℤ s)) a b ≤ counted_earlier
     count s a b
 earlier_covered test count s a b h =

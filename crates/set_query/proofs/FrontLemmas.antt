@@ -5,7 +5,8 @@ use Rattle.std.specs.Io.KnownBytes.{Consumes, IsAtEnd}
 use Rattle.set_query.specs.Effects.{IsFront}
 
 -- the source came to its end
-pub ended : (a b c : Option (List ℕ)) (bytes : List ℕ) (room : ℕ) → Consumes a b bytes → IsAtEnd b → Consumes b c [] → length bytes ≤ room → IsFront room a c bytes
+pub ended : (a b c : Option (List ℕ)) (bytes : List ℕ) (room : ℕ) → Consumes a b bytes → IsAtEnd b
+    → Consumes b c [] → length bytes ≤ room → IsFront room a c bytes
 ended None b c bytes room h e k l = tt
 ended (Some text) None c bytes room h e k l = absurd h
 ended (Some text) (Some rest) None bytes room h e k l = absurd k
@@ -15,7 +16,9 @@ ended (Some text) (Some rest) (Some last) bytes room h e k l =
     (grind (arith, common_steps), grind (arith, common_steps))
 
 -- or the room was filled
-pub filled : (a b : Option (List ℕ)) (bytes : List ℕ) (room : ℕ) → Consumes a b bytes → length bytes ≡ room → IsFront room a b bytes
+pub filled : (a b : Option (List ℕ)) (bytes : List ℕ) (room : ℕ) → Consumes a b bytes → length bytes
+    ≡ room → IsFront room a b bytes
 filled None b bytes room h l = tt
 filled (Some text) None bytes room h l = absurd h
-filled (Some text) (Some rest) bytes room h l = (grind (arith, common_steps), grind (arith, common_steps))
+filled (Some text) (Some rest) bytes room h l =
+    (grind (arith, common_steps), grind (arith, common_steps))

@@ -1,5 +1,5 @@
 -- The outcome of words over a text from its first bytes, and what was put of it.
-use Rattle.std.proofs.Common.{◌≡◌, ◌≢◌, ◌≤◌, ◌<◌, ◌⊎◌, [], ℕ, List, length, take, drop, sym, ◌∙◌, ap, subst, arith, inl, inr, lit<, Option, Some, None, IfSome, Ok, Err, refl}
+use Rattle.std.proofs.Common.{◌≡◌, ◌≢◌, ◌≤◌, ◌<◌, ◌⊎◌, [], ℕ, List, length, drop, sym, ◌∙◌, ap, subst, arith, inl, inr, lit<, Option, Some, None, IfSome, Ok, refl}
 use Rattle.std.proofs.lemmas.Grind.{common_steps}
 use Rattle.expr_text.specs.declared.fault.TheConstants.{LONGEST}
 use Rattle.outside_core.specs.declared.writes.Sink.{Ghosts as Sink}
@@ -108,11 +108,19 @@ module _ {K : Type 0} (sink : Sink K) (old new : K) (entries : Entries) (words :
 
   pub ends_statuses : Ends → IsDone status ⊎ (status ≡ 4) ⊎ (status ≡ 5) ⊎ (status ≡ 6)
   ends_statuses (inr six) = inr (inr (inr six.0))
-  ends_statuses (inl r) = elim (reported_status r) [ inl done ↦ inl done | inr five ↦ inr (inr (inl five)) ]
+  ends_statuses (inl r) = elim (reported_status r) [
+    | inl done ↦ inl done
+    | inr five ↦
+        inr (inr (inl five))
+  ]
 
   pub ends_complete : Ends → ¬ (WriteFailed sink old new) → IsDone status ⊎ (status ≡ 6)
   ends_complete (inr six) none = inr six.0
-  ends_complete (inl r) none = elim (reported_status r) [ inl done ↦ inl done | inr five ↦ absurd (none (r.written.failed five)) ]
+  ends_complete (inl r) none = elim (reported_status r) [
+    | inl done ↦ inl done
+    | inr five ↦
+        absurd (none (r.written.failed five))
+  ]
 
   not_done : (n : ℕ) → 3 < n → status ≡ n → IsDone status → ⊥
   not_done n more e (inl a) = absurd (omega (arith, a, e, more))
@@ -134,9 +142,14 @@ module _ {K : Type 0} (sink : Sink K) (old new : K) (entries : Entries) (words :
 
   pub ends_read : Ends → status ≡ 4 → ⊥
   ends_read (inr six) four = let is = six.0 in absurd (omega (arith, is, four))
-  ends_read (inl r) four = elim (reported_status r) [ inl done ↦ absurd (not_done 4 (lit< tt) four done) | inr five ↦ absurd (omega (arith, five, four)) ]
+  ends_read (inl r) four = elim (reported_status r) [
+    | inl done ↦ absurd (not_done 4 (lit< tt) four done)
+    | inr five ↦
+        absurd (omega (arith, five, four))
+  ]
 
-  pub ends_sink_fault : Ends → status ≡ 5 → WriteFailed sink old new × BreaksOff sink old new entries words left
+  pub ends_sink_fault : Ends → status ≡ 5 → WriteFailed sink old new × BreaksOff sink old new
+      entries words left
   ends_sink_fault (inr six) five = let is = six.0 in absurd (omega (arith, is, five))
   ends_sink_fault (inl r) five =
       let some = r.written.part five in (
@@ -146,17 +159,22 @@ module _ {K : Type 0} (sink : Sink K) (old new : K) (entries : Entries) (words :
 
   pub ends_memory : Ends → status ≡ 6 → new ≡ old
   ends_memory (inr six) e = six.1
-  ends_memory (inl r) e = elim (reported_status r) [ inl done ↦ absurd (not_done 6 (lit< tt) e done) | inr five ↦ absurd (omega (arith, five, e)) ]
+  ends_memory (inl r) e = elim (reported_status r) [
+    | inl done ↦ absurd (not_done 6 (lit< tt) e done)
+    | inr five ↦ absurd (omega (arith, five, e))
+  ]
 
   pub ends_ended : AnsweredTextsAreShort → (rest : Option (List ℕ)) (bytes : List ℕ)
       → IsFront ROOM left rest bytes → Ends → ((status ≡ 0) ⊎ (status ≡ 3))
       → IfSome left (λ text. rest ≡ Some [])
   ends_ended short rest bytes front e (inl zero) =
       let a = ends_done e (inl zero) in
-      read_out short words left rest bytes a.outcome front a.of_words (λ two_s. let is = a.status_is in absurd (omega (arith, zero, is, two_s)))
+      read_out short words left rest bytes a.outcome front a.of_words (λ two_s. let is =
+      a.status_is in absurd (omega (arith, zero, is, two_s)))
   ends_ended short rest bytes front e (inr three) =
       let a = ends_done e (inr (inr three)) in
-      read_out short words left rest bytes a.outcome front a.of_words (λ two_s. let is = a.status_is in absurd (omega (arith, three, is, two_s)))
+      read_out short words left rest bytes a.outcome front a.of_words (λ two_s. let is =
+      a.status_is in absurd (omega (arith, three, is, two_s)))
 
 pub ends_ample : WordsAreReadOnce → AmpleRepliesNeverStop → {K : Type 0} (sink : Sink K)
     (old new : K) (entries : Entries) (words : List (List ℕ)) (left : Option (List ℕ)) (status : ℕ)

@@ -11,7 +11,8 @@ use Rattle.sieve_core.specs.declared.tables.Sieve.{Sieve}
 use Rattle.sieve_core.specs.Members.{has, is_between, is_candidate, is_mark, is_midnight, meets_interval, meets_rank, meets_rule, meets_tests}
 
 -- the time of day first
-pub meets_tests_by_time : (s : Sieve) (t : ℤ) → meets_tests s t ≡ (meets_time s (second_of_day t) && meets_days s.days (day_of t))
+pub meets_tests_by_time : (s : Sieve) (t : ℤ) → meets_tests s t
+    ≡ (meets_time s (second_of_day t) && meets_days s.days (day_of t))
 unfolding meets_tests meets_time
 meets_tests_by_time s t = and_comm (meets_days s.days (day_of t)) (meets_time s (second_of_day t))
 
@@ -31,8 +32,10 @@ has_between s t e = rw e refl
 pub member_is_candidate : (s : Sieve) (t : ℤ) → has s t ≡ true → is_candidate s t ≡ true
 unfolding has is_candidate is_mark meets_rule
 member_is_candidate s t e =
-    let parts = and_parts (is_between s t) (meets_tests s t && meets_interval s t && meets_rank s t) e in
-    let tests = and_parts (meets_tests s t) _ (and_parts (meets_tests s t && meets_interval s t) (meets_rank s t) parts.1).0 in
+    let parts = and_parts (is_between s t) (meets_tests s t && meets_interval s t && meets_rank s t)
+    e in
+    let tests = and_parts (meets_tests s t) _ (and_parts (meets_tests s t && meets_interval s t)
+    (meets_rank s t) parts.1).0 in
     and_from (is_between s t) _ parts.0 (or_right (is_midnight t) (meets_tests s t) tests.0)
 
 pub candidate-between : (s : Sieve) (t : ℤ) → is_candidate s t ≡ true → is_between s t ≡ true

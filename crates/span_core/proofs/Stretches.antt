@@ -13,7 +13,8 @@ use Rattle.moment_core.proofs.Comparing.{int_le-below, int_le-false, int_le-true
 
 -- where there is a first position, the positions from it on are those that a low bound reaches,
 -- else all are
-pub reaches-from : (low : Bound) (first : Pos) → first_from low ≡ Some first → (p : ℤ) → reaches low p ≡ int_le first.0 p
+pub reaches-from : (low : Bound) (first : Pos) → first_from low ≡ Some first → (p : ℤ)
+    → reaches low p ≡ int_le first.0 p
 reaches-from (Closed t) first e p = cc
 reaches-from (Open t) first e p = cc
 reaches-from Inf first e p = absurd cc
@@ -25,7 +26,8 @@ reaches-all (Open t) e p = absurd cc
 reaches-all Inf e p = refl
 reaches-all Edge e p = refl
 
-pub ends_after-to : (high : Bound) (last : Pos) → last_to high ≡ Some last → (p : ℤ) → ends_after high p ≡ int_le p last.0
+pub ends_after-to : (high : Bound) (last : Pos) → last_to high ≡ Some last → (p : ℤ)
+    → ends_after high p ≡ int_le p last.0
 ends_after-to (Closed t) last e p = cc
 ends_after-to (Open t) last e p =
     let before : position_of t.0 -ℤ pos 1 ≡ last.0 = cc in
@@ -46,14 +48,16 @@ reaches-later (Open t) p q h e = grind (arith, ints)
 reaches-later Inf p q h e = refl
 reaches-later Edge p q h e = refl
 
-pub ends_after-earlier : (high : Bound) (p q : ℤ) → p ≤ℤ q → ends_after high q ≡ true → ends_after high p ≡ true
+pub ends_after-earlier : (high : Bound) (p q : ℤ) → p ≤ℤ q → ends_after high q ≡ true
+    → ends_after high p ≡ true
 ends_after-earlier (Closed t) p q h e = grind (arith, ints)
 ends_after-earlier (Open t) p q h e = grind (arith, ints)
 ends_after-earlier Inf p q h e = refl
 ends_after-earlier Edge p q h e = refl
 
 -- given bounds whose positions are in order have one of them between them
-pub IsSpan-first-last : (low high : Bound) → IsGiven low → IsGiven high → (first last : Pos) → first_from low ≡ Some first → last_to high ≡ Some last → first.0 ≤ℤ last.0 → IsSpan low high
+pub IsSpan-first-last : (low high : Bound) → IsGiven low → IsGiven high → (first last : Pos)
+    → first_from low ≡ Some first → last_to high ≡ Some last → first.0 ≤ℤ last.0 → IsSpan low high
 IsSpan-first-last low high g h first last e f ordered = record {
   low_given = g;
   high_given = h;
@@ -65,7 +69,8 @@ IsSpan-first-last low high g h first last e f ordered = record {
   );
 }
 
-pub IsSpan-from : (low high : Bound) → IsGiven low → IsGiven high → (first : Pos) → first_from low ≡ Some first → last_to high ≡ None → IsSpan low high
+pub IsSpan-from : (low high : Bound) → IsGiven low → IsGiven high → (first : Pos) → first_from low
+    ≡ Some first → last_to high ≡ None → IsSpan low high
 IsSpan-from low high g h first e f = record {
   low_given = g;
   high_given = h;
@@ -77,7 +82,8 @@ IsSpan-from low high g h first e f = record {
   );
 }
 
-pub IsSpan-to : (low high : Bound) → IsGiven low → IsGiven high → first_from low ≡ None → IsSpan low high
+pub IsSpan-to : (low high : Bound) → IsGiven low → IsGiven high → first_from low ≡ None
+    → IsSpan low high
 IsSpan-to low high g h e = elim (last_to high) as (λ o. last_to high ≡ o → IsSpan low high) [
   | Some last ↦ λ f. record {
     low_given = g;
@@ -99,14 +105,16 @@ IsSpan-to low high g h e = elim (last_to high) as (λ o. last_to high ≡ o → 
 abbrev pub IsGap : Bound → Bound → Type 0
 IsGap high low = (p : ℤ) × (ends_after high p ≡ false) × (reaches low p ≡ false)
 
-pub IsGap-apart : (high low : Bound) (last first : Pos) → last_to high ≡ Some last → first_from low ≡ Some first → (last.0 +ℤ pos 1) <ℤ first.0 → IsGap high low
+pub IsGap-apart : (high low : Bound) (last first : Pos) → last_to high ≡ Some last → first_from low
+    ≡ Some first → (last.0 +ℤ pos 1) <ℤ first.0 → IsGap high low
 IsGap-apart high low last first e f h = (
   last.0 +ℤ pos 1,
   ends_after-to high last e _ ∙ lt-int_le _ last.0 (omega (arith, ints)),
   reaches-from low first f _ ∙ lt-int_le first.0 _ h,
 )
 
-pub apart-IsGap : (high low : Bound) (last first : Pos) → last_to high ≡ Some last → first_from low ≡ Some first → IsGap high low → (last.0 +ℤ pos 1) <ℤ first.0
+pub apart-IsGap : (high low : Bound) (last first : Pos) → last_to high ≡ Some last → first_from low
+    ≡ Some first → IsGap high low → (last.0 +ℤ pos 1) <ℤ first.0
 apart-IsGap high low last first e f gap =
     let p : ℤ = gap.0 in
     let above = int_le-false p last.0 (sym (ends_after-to high last e p) ∙ gap.1) in
@@ -115,7 +123,8 @@ apart-IsGap high low last first e f gap =
 
 -- what lies above one low bound and below another high one lies in one of the two spans, where no
 -- gap is between them
-joined : (a b c d : Bound) (q : ℤ) → (IsGap b c → ⊥) → reaches a q ≡ true → ends_after d q ≡ true → (lies_between a b q || lies_between c d q) ≡ true
+joined : (a b c d : Bound) (q : ℤ) → (IsGap b c → ⊥) → reaches a q ≡ true → ends_after d q ≡ true
+    → (lies_between a b q || lies_between c d q) ≡ true
 joined a b c d q no_gap low high =
     elim (cases_Bool (ends_after b q)) [
       | inl within ↦ or_left _ _ (and_from _ _ low within)
@@ -130,31 +139,37 @@ swapped true y e = or_right y true refl
 swapped false y e = or_left y false e
 
 -- past a position of one of two spans one of them has begun, and before it one has not ended
-either_begun : (a b c d : Bound) (p q : ℤ) → p ≤ℤ q → (lies_between a b p || lies_between c d p) ≡ true → (reaches a q ≡ true) ⊎ (reaches c q ≡ true)
+either_begun : (a b c d : Bound) (p q : ℤ) → p ≤ℤ q → (lies_between a b p || lies_between c d p)
+    ≡ true → (reaches a q ≡ true) ⊎ (reaches c q ≡ true)
 either_begun a b c d p q h e = elim (or_cases (lies_between a b p) (lies_between c d p) e) [
   | inl x ↦ inl (reaches-later a p q h (and_parts (reaches a p) (ends_after b p) x).0)
   | inr y ↦ inr (reaches-later c p q h (and_parts (reaches c p) (ends_after d p) y).0)
 ]
 
-either_open : (a b c d : Bound) (q r : ℤ) → q ≤ℤ r → (lies_between a b r || lies_between c d r) ≡ true → (ends_after b q ≡ true) ⊎ (ends_after d q ≡ true)
+either_open : (a b c d : Bound) (q r : ℤ) → q ≤ℤ r → (lies_between a b r || lies_between c d r)
+    ≡ true → (ends_after b q ≡ true) ⊎ (ends_after d q ≡ true)
 either_open a b c d q r h e = elim (or_cases (lies_between a b r) (lies_between c d r) e) [
   | inl x ↦ inl (ends_after-earlier b q r h (and_parts (reaches a r) (ends_after b r) x).1)
   | inr y ↦ inr (ends_after-earlier d q r h (and_parts (reaches c r) (ends_after d r) y).1)
 ]
 
 -- without a gap either way two spans are one stretch
-pub one_stretch : (a b c d : Bound) → (IsGap b c → ⊥) → (IsGap d a → ⊥) → IsOneStretch (λ p. lies_between a b p || lies_between c d p)
+pub one_stretch : (a b c d : Bound) → (IsGap b c → ⊥) → (IsGap d a → ⊥)
+    → IsOneStretch (λ p. lies_between a b p || lies_between c d p)
 one_stretch a b c d no_gap none_back p q r pq qr in_p in_r =
     let begun : (reaches a q ≡ true) ⊎ (reaches c q ≡ true) = either_begun a b c d p q pq in_p in
-    let unended : (ends_after b q ≡ true) ⊎ (ends_after d q ≡ true) = either_open a b c d q r qr in_r in
+    let unended : (ends_after b q ≡ true) ⊎ (ends_after d q ≡ true) = either_open a b c d q r qr
+    in_r in
     elim begun [
       | inl x ↦ elim unended [
-        | inl y ↦ or_left (lies_between a b q) (lies_between c d q) (and_from (reaches a q) (ends_after b q) x y)
+        | inl y ↦ or_left (lies_between a b q) (lies_between c d q)
+            (and_from (reaches a q) (ends_after b q) x y)
         | inr y ↦ joined a b c d q no_gap x y
       ]
       | inr x ↦ elim unended [
         | inl y ↦ swapped (lies_between c d q) (lies_between a b q) (joined c d a b q none_back x y)
-        | inr y ↦ or_right (lies_between a b q) (lies_between c d q) (and_from (reaches c q) (ends_after d q) x y)
+        | inr y ↦ or_right (lies_between a b q) (lies_between c d q)
+            (and_from (reaches c q) (ends_after d q) x y)
       ]
     ]
 
@@ -176,7 +191,8 @@ after low q r f e = elim (cases_Bool (int_le q r)) [
 ]
 
 -- with a gap they are not, since each holds some position
-pub no_gap : (a b c d : Bound) → IsSpan a b → IsSpan c d → IsOneStretch (λ p. lies_between a b p || lies_between c d p) → IsGap b c → ⊥
+pub no_gap : (a b c d : Bound) → IsSpan a b → IsSpan c d
+    → IsOneStretch (λ p. lies_between a b p || lies_between c d p) → IsGap b c → ⊥
 no_gap a b c d first other stretch gap =
     let q : ℤ = gap.0 in
     let p : ℤ = first.some.0 in
@@ -199,12 +215,16 @@ and_swapped true false false z = refl
 and_swapped false x y z = refl
 
 -- the positions between the later low and the earlier high bound are those of both spans
-pub in_both : (low high a b c d : Bound) → ((p : ℤ) → reaches low p ≡ (reaches a p && reaches c p)) → ((p : ℤ) → ends_after high p ≡ (ends_after b p && ends_after d p)) → (p : ℤ) → lies_between low high p ≡ (lies_between a b p && lies_between c d p)
+pub in_both : (low high a b c d : Bound) → ((p : ℤ) → reaches low p ≡ (reaches a p && reaches c p))
+    → ((p : ℤ) → ends_after high p ≡ (ends_after b p && ends_after d p)) → (p : ℤ)
+    → lies_between low high p ≡ (lies_between a b p && lies_between c d p)
 in_both low high a b c d e f p =
     rw (e p, f p) (and_swapped (reaches a p) (reaches c p) (ends_after b p) (ends_after d p))
 
 -- two tests for a gap, either way, tell whether two spans, seen as their bounds, are one stretch
-one_stretch_tells : (a b c d : Bound) → IsSpan a b → IsSpan c d → (x y : Bool) → (IsTrue x ↔ IsGap b c) → (IsTrue y ↔ IsGap d a) → IsTrue (not x && not y) ↔ IsOneStretch (λ p. lies_between a b p || lies_between c d p)
+one_stretch_tells : (a b c d : Bound) → IsSpan a b → IsSpan c d → (x y : Bool)
+    → (IsTrue x ↔ IsGap b c) → (IsTrue y ↔ IsGap d a) → IsTrue (not x && not y)
+    ↔ IsOneStretch (λ p. lies_between a b p || lies_between c d p)
 one_stretch_tells a b c d first other x y x_tells y_tells = (
   λ e.
       let parts = and_parts (not x) (not y) e in
@@ -212,31 +232,46 @@ one_stretch_tells a b c d first other x y x_tells y_tells = (
       (λ gap. both_ways x (not-true x parts.0) (x_tells.1 gap))
       (λ gap. both_ways y (not-true y parts.1) (y_tells.1 gap)),
   λ stretch. and_from (not x) (not y)
-      (not_from_false x (false_from_ne_true x (λ e. no_gap a b c d first other stretch (x_tells.0 e))))
+      (not_from_false x
+      (false_from_ne_true x (λ e. no_gap a b c d first other stretch (x_tells.0 e))))
       (not_from_false y (false_from_ne_true y (λ e. no_gap c d a b other first
       (λ p q r h k in_p in_r. swapped (lies_between a b q) (lies_between c d q) (stretch p q r h k
-      (swapped (lies_between c d p) (lies_between a b p) in_p) (swapped (lies_between c d r) (lies_between a b r) in_r)))
+      (swapped (lies_between c d p) (lies_between a b p) in_p)
+      (swapped (lies_between c d r) (lies_between a b r) in_r)))
       (y_tells.0 e)))),
 )
 
-pub touching : (s o : Bound × Bound) (a b c d : Bound) → (a, b) ≡ s → (c, d) ≡ o → IsSpan a b → IsSpan c d → (x y z : Bool) → (IsTrue x ↔ IsGap b c) → (IsTrue y ↔ IsGap d a) → (not x && not y) ≡ z → IsTrue z ↔ IsOneStretch (λ p. lies_between s.0 s.1 p || lies_between o.0 o.1 p)
+pub touching : (s o : Bound × Bound) (a b c d : Bound) → (a, b) ≡ s → (c, d) ≡ o → IsSpan a b
+    → IsSpan c d → (x y z : Bool) → (IsTrue x ↔ IsGap b c) → (IsTrue y ↔ IsGap d a)
+    → (not x && not y) ≡ z → IsTrue z ↔ IsOneStretch (λ p. lies_between s.0 s.1 p
+    || lies_between o.0 o.1 p)
 touching s o a b c d e f first other x y z x_tells y_tells g =
-    let P : Bound × Bound → Type 0 = λ v. IsTrue z ↔ IsOneStretch (λ p. lies_between v.0 v.1 p || lies_between o.0 o.1 p) in
-    let Q : Bound × Bound → Type 0 = λ v. IsTrue z ↔ IsOneStretch (λ p. lies_between a b p || lies_between v.0 v.1 p) in
-    let R : Bool → Type 0 = λ v. IsTrue v ↔ IsOneStretch (λ p. lies_between a b p || lies_between c d p) in
+    let P : Bound × Bound → Type 0 =
+    λ v. IsTrue z ↔ IsOneStretch (λ p. lies_between v.0 v.1 p || lies_between o.0 o.1 p) in
+    let Q : Bound × Bound → Type 0 =
+    λ v. IsTrue z ↔ IsOneStretch (λ p. lies_between a b p || lies_between v.0 v.1 p) in
+    let R : Bool → Type 0 =
+    λ v. IsTrue v ↔ IsOneStretch (λ p. lies_between a b p || lies_between c d p) in
     subst P e (subst Q f (subst R g (one_stretch_tells a b c d first other x y x_tells y_tells)))
 
 -- two spans, seen as their bounds, and what was made of their later low and earlier high bound
 abbrev InBoth : Bound × Bound → Bound × Bound → ℤ → Bool
 InBoth s o p = lies_between s.0 s.1 p && lies_between o.0 o.1 p
 
-in_both_views : (s o : Bound × Bound) (a b c d low high : Bound) → (a, b) ≡ s → (c, d) ≡ o → ((p : ℤ) → reaches low p ≡ (reaches a p && reaches c p)) → ((p : ℤ) → ends_after high p ≡ (ends_after b p && ends_after d p)) → (p : ℤ) → lies_between low high p ≡ InBoth s o p
+in_both_views : (s o : Bound × Bound) (a b c d low high : Bound) → (a, b) ≡ s → (c, d) ≡ o
+    → ((p : ℤ) → reaches low p ≡ (reaches a p && reaches c p))
+    → ((p : ℤ) → ends_after high p ≡ (ends_after b p && ends_after d p)) → (p : ℤ)
+    → lies_between low high p ≡ InBoth s o p
 in_both_views s o a b c d low high e f lows highs p =
     let P : Bound × Bound → Type 0 = λ v. lies_between low high p ≡ InBoth v o p in
     let Q : Bound × Bound → Type 0 = λ v. lies_between low high p ≡ InBoth (a, b) v p in
     subst P e (subst Q f (in_both low high a b c d lows highs p))
 
-pub meet-some : (s o : Bound × Bound) (a b c d low high : Bound) → (a, b) ≡ s → (c, d) ≡ o → ((p : ℤ) → reaches low p ≡ (reaches a p && reaches c p)) → ((p : ℤ) → ends_after high p ≡ (ends_after b p && ends_after d p)) → (r : Result (Bound × Bound) Empty) → IfOk r (λ v. v ≡ (low, high)) → IfSome (result_ok r) (λ v. (p : ℤ) → lies_between v.0 v.1 p ≡ InBoth s o p)
+pub meet-some : (s o : Bound × Bound) (a b c d low high : Bound) → (a, b) ≡ s → (c, d) ≡ o
+    → ((p : ℤ) → reaches low p ≡ (reaches a p && reaches c p))
+    → ((p : ℤ) → ends_after high p ≡ (ends_after b p && ends_after d p))
+    → (r : Result (Bound × Bound) Empty) → IfOk r (λ v. v ≡ (low, high)) → IfSome (result_ok r)
+    (λ v. (p : ℤ) → lies_between v.0 v.1 p ≡ InBoth s o p)
 meet-some s o a b c d low high e f lows highs (Ok v) kept = λ p.
     let P : Bound × Bound → Type 0 = λ v. lies_between v.0 v.1 p ≡ InBoth s o p in
     subst P (sym kept) (in_both_views s o a b c d low high e f lows highs p)
@@ -250,7 +285,11 @@ err-none : {A E : Type 0} (r : Result A E) → IsErr r → IsNone (result_ok r)
 err-none (Ok x) e = absurd cc
 err-none (Err x) e = refl
 
-pub meet-none : (s o : Bound × Bound) (a b c d low high : Bound) → (a, b) ≡ s → (c, d) ≡ o → ((p : ℤ) → reaches low p ≡ (reaches a p && reaches c p)) → ((p : ℤ) → ends_after high p ≡ (ends_after b p && ends_after d p)) → (r : Result (Bound × Bound) Empty) → (IsErr r ↔ ((p : ℤ) → lies_between low high p ≡ false)) → IsNone (result_ok r) ↔ ((p : ℤ) → InBoth s o p ≡ false)
+pub meet-none : (s o : Bound × Bound) (a b c d low high : Bound) → (a, b) ≡ s → (c, d) ≡ o
+    → ((p : ℤ) → reaches low p ≡ (reaches a p && reaches c p))
+    → ((p : ℤ) → ends_after high p ≡ (ends_after b p && ends_after d p))
+    → (r : Result (Bound × Bound) Empty) → (IsErr r ↔ ((p : ℤ) → lies_between low high p ≡ false))
+    → IsNone (result_ok r) ↔ ((p : ℤ) → InBoth s o p ≡ false)
 meet-none s o a b c d low high e f lows highs r empty = (
   λ none p. sym (in_both_views s o a b c d low high e f lows highs p) ∙ empty.0 (none-err r none) p,
   λ none. err-none r (empty.1 (λ p. in_both_views s o a b c d low high e f lows highs p ∙ none p)),

@@ -18,7 +18,8 @@ not-yet : (dir : Dir) (t : ℤ) (n k : ℕ) → k < n → once (ahead dir t n) (
 not-yet Fore t n k below = grind (arith, ints)
 not-yet Back t n k below = grind (arith, ints)
 
-pub next-once : (dir : Dir) (t u : ℤ) (n : ℕ) → IsWorkingMoment u → u ≡ ahead dir t n → 0 < n → IsNextCandidate (once u) dir t u
+pub next-once : (dir : Dir) (t u : ℤ) (n : ℕ) → IsWorkingMoment u → u ≡ ahead dir t n → 0 < n
+    → IsNextCandidate (once u) dir t u
 next-once dir t u n working place some = (
   working,
   (

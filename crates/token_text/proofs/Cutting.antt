@@ -18,9 +18,11 @@ colon_at : (a b : List ℕ) → lacks_colon a ≡ true → position_or_len is_co
 colon_at [] b lacks = refl
 colon_at (x ∷ a) b lacks =
     let parts = and_parts (not (is_colon x)) (lacks_colon a) lacks in
-    rw (not_true (is_colon x) parts.0) (ap (λ n. 1 + n) (colon_at a b parts.1) ∙ one_more (length a))
+    rw (not_true (is_colon x) parts.0) (ap (λ n. 1 + n) (colon_at a b parts.1)
+    ∙ one_more (length a))
 
-pub cut_at : (a b text : List ℕ) (r : Option (Bor (List ℕ) × Bor (List ℕ))) → IsSplitOnceResult 58 text r → lacks_colon a ≡ true
+pub cut_at : (a b text : List ℕ) (r : Option (Bor (List ℕ) × Bor (List ℕ))) → IsSplitOnceResult 58
+    text r → lacks_colon a ≡ true
     → text ≡ with_colon a b → IsSomeAnd r (λ x. (x.0.now ≡ a) × (x.1.now ≡ b))
 cut_at a b text None split lacks whole =
     let is : text ≡ a ++ 58 ∷ b = whole ∙ append_assoc a (58 ∷ []) b in

@@ -25,9 +25,11 @@ dir_lacks Back = refl
 pub near_fits : (p : Pos) → IsNearRange p → FitsSigned w64 p.0
 near_fits p near = grind (arith, ints)
 
-pub read_back : {E : Type 0} (p : Pos) (text : List ℕ) (r : Result ℤ E) → IsNearRange p → text ≡ signed_decimal p.0
+pub read_back : {E : Type 0} (p : Pos) (text : List ℕ) (r : Result ℤ E) → IsNearRange p → text
+    ≡ signed_decimal p.0
     → ParsesSigned w64 10 text r → r ≡ Ok p.0
-read_back p text r near is parses = parse-signed_decimal w64 p.0 text r (near_fits p near) (grind (arith, ints)) is parses
+read_back p text r near is parses = parse-signed_decimal w64 p.0 text r (near_fits p near)
+    (grind (arith, ints)) is parses
 
 colon_is_no_digit : (b : ℕ) → is_ascii_digit b ≡ true → not (is_colon b) ≡ true
 colon_is_no_digit b digit = grind (arith, nat_tests)
@@ -62,15 +64,19 @@ begun_lacks None near = refl
 begun_lacks (Some p) near = number_lacks p near
 
 -- the positions of a token that fits lie in the calendar range, or right beside it
-pub fit_near : (t : Token) → IsFit t → IsNearRange t.place × IsNearRange t.end × IsNearIfGiven t.begun
+pub fit_near : (t : Token) → IsFit t → IsNearRange t.place × IsNearRange t.end
+    × IsNearIfGiven t.begun
 fit_near t fit = near t.dir t.place t.begun t.end fit
   where
-    near : (dir : Dir) (place : Pos) (begun : Option Pos) (end : Pos) → IsFit (record { dir = dir; place = place; begun = begun; end = end })
+    near : (dir : Dir) (place : Pos) (begun : Option Pos) (end : Pos)
+        → IsFit (record { dir = dir; place = place; begun = begun; end = end })
         → IsNearRange place × IsNearRange end × IsNearIfGiven begun
     near Fore place None end fit = (grind (arith, ints), grind (arith, ints), tt)
     near Back place None end fit = (grind (arith, ints), grind (arith, ints), tt)
-    near Fore place (Some begun) end fit = (grind (arith, ints), grind (arith, ints), grind (arith, ints))
-    near Back place (Some begun) end fit = (grind (arith, ints), grind (arith, ints), grind (arith, ints))
+    near Fore place (Some begun) end fit =
+        (grind (arith, ints), grind (arith, ints), grind (arith, ints))
+    near Back place (Some begun) end fit =
+        (grind (arith, ints), grind (arith, ints), grind (arith, ints))
 
 pub only_ok : {E : Type 0} (a b : ℤ) → Path (Result ℤ E) (Ok a) (Ok b) → a ≡ b
 only_ok a b e = cc
@@ -81,13 +87,16 @@ no_dash p near e = by_sign p.0 (grind (arith, ints)) e
   where
     by_sign : (z : ℤ) → unsigned_abs z < 2 ^ 63 → signed_decimal z ≡ 45 ∷ [] → ⊥
     by_sign (pos n) small e =
-        let digits : list_all is_ascii_digit (45 ∷ []) ≡ true = subst (λ text. list_all is_ascii_digit text ≡ true) e (digits_decimal own n (omega (arith, small))) in
+        let digits : list_all is_ascii_digit (45 ∷ []) ≡ true =
+        subst (λ text. list_all is_ascii_digit text ≡ true) e
+        (digits_decimal own n (omega (arith, small))) in
         cc
     by_sign (negsuc n) small e =
         let none : length (decimal (suc n)) ≡ 0 = ap (λ (text : List ℕ). length (drop 1 text)) e in
         omega (arith, none, decimal_nonempty (suc n) (omega (arith, small)))
 
-pub dash_is_none : (p : Option Pos) (text : List ℕ) → IsNearIfGiven p → text ≡ begun_text p → text ≡ 45 ∷ []
+pub dash_is_none : (p : Option Pos) (text : List ℕ) → IsNearIfGiven p → text ≡ begun_text p → text
+    ≡ 45 ∷ []
     → Path (Option (Option Pos)) (Some None) (Some p)
 dash_is_none None text near is dash = refl
 dash_is_none (Some p) text near is dash = absurd (no_dash p near (sym is ∙ dash))

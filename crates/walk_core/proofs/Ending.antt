@@ -19,7 +19,8 @@ pub record IsLastRun (set : ℤ → Bool) (p end low high : ℤ) : Type 0 where
   pub begins : (low ≤ℤ p) ⊎ (set (low -ℤ pos 1) ≡ false)
 
 -- the first run backwards is the last one forwards
-pub last_run : (set : ℤ → Bool) (lo hi near far : ℤ) → IsFirstRun set Back hi lo near far → IsLastRun set lo hi far near
+pub last_run : (set : ℤ → Bool) (lo hi near far : ℤ) → IsFirstRun set Back hi lo near far
+    → IsLastRun set lo hi far near
 last_run set lo hi near far r = record {
   from = r.within;
   some = r.some;
@@ -33,7 +34,9 @@ last_run set lo hi near far r = record {
 }
 
 -- items up to right before the last run, and then it
-pub items_then_last : (set : ℤ → Bool) (window : Dir → ℤ → Option Window) (p end low high : ℤ) (runs : List Run) → IsLastRun set p end low high → AreItems set window Fore p (low -ℤ pos 1) runs → AreItems set window Fore p end (runs ++ item_from window Fore low high ∷ [])
+pub items_then_last : (set : ℤ → Bool) (window : Dir → ℤ → Option Window) (p end low high : ℤ)
+    (runs : List Run) → IsLastRun set p end low high → AreItems set window Fore p (low -ℤ pos 1)
+    runs → AreItems set window Fore p end (runs ++ item_from window Fore low high ∷ [])
 items_then_last set window p end low high [] last none = (
   low,
   high,
@@ -59,7 +62,8 @@ items_then_last set window p end low high (run ∷ runs) last (near, far, first,
       | inl e ↦ elim last.begins [
         | inl h ↦ absurd (omega (arith, ints, e))
         | inr free ↦
-            let t : set (low -ℤ pos 1) ≡ true = ap set (sym e) ∙ first.members far on (omega (arith, ints)) in
+            let t : set (low -ℤ pos 1) ≡ true = ap set (sym e) ∙ first.members far on
+            (omega (arith, ints)) in
             let f : true ≡ false = sym t ∙ free in
             absurd cc
       ]

@@ -12,17 +12,22 @@ use Rattle.walk_core.specs.Items.{begin_at}
 use Rattle.walk_core.proofs.Order.{in_range-from}
 
 -- where what is left begins, and the place, are not before the range's beginning
-begins_from : (dir : Dir) (place end : ℤ) (begun : Option Pos) → IsPlaceFit dir place end begun → IsUpTo dir (begin_at place begun) (range_begin dir)
+begins_from : (dir : Dir) (place end : ℤ) (begun : Option Pos) → IsPlaceFit dir place end begun
+    → IsUpTo dir (begin_at place begun) (range_begin dir)
 begins_from dir place end None fit = fit.0
 begins_from dir place end (Some begun) fit = fit.0
 
-pub place_from : (dir : Dir) (place end : ℤ) (begun : Option Pos) → IsPlaceFit dir place end begun → IsUpTo dir place (range_begin dir)
+pub place_from : (dir : Dir) (place end : ℤ) (begun : Option Pos) → IsPlaceFit dir place end begun
+    → IsUpTo dir place (range_begin dir)
 place_from dir place end None fit = fit.0
-place_from dir place end (Some begun) fit = trans_up_to dir (range_begin dir) begun.0 place fit.0 fit.1
+place_from dir place end (Some begun) fit = trans_up_to dir (range_begin dir) begun.0 place fit.0
+    fit.1
 
-module _ (set : ℤ → Bool) (t : Token) (near far : ℤ) (fit : IsFit t) (first : IsFirstRun set t.dir (begin_at t.place.0 t.begun) t.end.0 near far) where
+module _ (set : ℤ → Bool) (t : Token) (near far : ℤ) (fit : IsFit t)
+    (first : IsFirstRun set t.dir (begin_at t.place.0 t.begun) t.end.0 near far) where
   near_from : IsUpTo t.dir near (range_begin t.dir)
-  near_from = trans_up_to t.dir (range_begin t.dir) (begin_at t.place.0 t.begun) near (begins_from t.dir t.place.0 t.end.0 t.begun fit.1) first.from
+  near_from = trans_up_to t.dir (range_begin t.dir) (begin_at t.place.0 t.begun) near
+      (begins_from t.dir t.place.0 t.end.0 t.begun fit.1) first.from
 
   -- nor is the end of the first run that is left
   pub far_from : IsUpTo t.dir far (range_begin t.dir)
@@ -30,6 +35,7 @@ module _ (set : ℤ → Bool) (t : Token) (near far : ℤ) (fit : IsFit t) (firs
 
   pub run_in_range : IsCalendarPosition near × IsCalendarPosition far
   run_in_range = (
-    in_range-from t.dir near t.end.0 near_from (trans_up_to t.dir near far t.end.0 first.some first.within) fit.0,
+    in_range-from t.dir near t.end.0 near_from (trans_up_to t.dir near far t.end.0 first.some
+        first.within) fit.0,
     in_range-from t.dir far t.end.0 far_from first.within fit.0,
   )

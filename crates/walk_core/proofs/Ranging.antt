@@ -37,13 +37,18 @@ moment_in_range q here =
     let high : q ≤ℤ (position_of (moment_of q) +ℤ pos 1) = near.1 in
     (omega (arith, ints), omega (arith, ints))
 
-item_in_range : ItemsAreInRange → (tree : Tree Meaning) (dir : Dir) (near far : ℤ) → IsCalendarPosition near → IsCalendarPosition far → IsCalendarRun (item_from (window_of tree) dir near far)
+item_in_range : ItemsAreInRange → (tree : Tree Meaning) (dir : Dir) (near far : ℤ)
+    → IsCalendarPosition near → IsCalendarPosition far
+    → IsCalendarRun (item_from (window_of tree) dir near far)
 item_in_range in_range tree Fore near far a b = in_range tree near far a b
 item_in_range in_range tree Back near far a b = in_range tree far near b a
 
-pub walk_in_range : WindowsLie → ItemsAreInRange → (tree : Tree Meaning) (budget : ℕ) (t next : Token) (item : Item) → IsFit t → WalksTo (is_member tree) (IsDue tree) (window_of tree) budget t item next → IsCalendarItem item
+pub walk_in_range : WindowsLie → ItemsAreInRange → (tree : Tree Meaning) (budget : ℕ)
+    (t next : Token) (item : Item) → IsFit t → WalksTo (is_member tree) (IsDue tree)
+    (window_of tree) budget t item next → IsCalendarItem item
 walk_in_range lie in_range tree budget t next (items.Run run) fit (near, far, first, is, on) =
-    let here = run_in_range (set_with (is_member tree) t.dir t.place.0 t.begun) t near far fit first in
+    let here = run_in_range (set_with (is_member tree) t.dir t.place.0 t.begun) t near far fit
+    first in
     subst (λ r. IsCalendarRun r) (sym is) (item_in_range in_range tree t.dir near far here.0 here.1)
 walk_in_range lie in_range tree budget t next (items.Done whys.To) fit h = tt
 walk_in_range lie in_range tree budget t next (items.Done (whys.None w)) fit h =
@@ -53,29 +58,40 @@ walk_in_range lie in_range tree budget t next (items.Done whys.Edge) fit h = tt
 walk_in_range lie in_range tree budget t next (items.Budget token) fit h = tt
 
 -- the places of a step
-step_later : (dir : Dir) (p x : ℤ) (n : ℕ) → x ≡ ahead dir p n → 0 < n → IsUpTo dir x (ahead dir p 1)
+step_later : (dir : Dir) (p x : ℤ) (n : ℕ) → x ≡ ahead dir p n → 0 < n
+    → IsUpTo dir x (ahead dir p 1)
 step_later Fore p x n e h = omega (arith, ints)
 step_later Back p x n e h = omega (arith, ints)
 
-before_it : (dir : Dir) (p place x : ℤ) → IsUpTo dir x (ahead dir p 1) → ahead dir place 1 ≡ x → IsUpTo dir place p
+before_it : (dir : Dir) (p place x : ℤ) → IsUpTo dir x (ahead dir p 1) → ahead dir place 1 ≡ x
+    → IsUpTo dir place p
 before_it Fore p place x h e = omega (arith, ints, e)
 before_it Back p place x h e = omega (arith, ints, e)
 
-place_past : (set : ℤ → Bool) (dir : Dir) (p place : ℤ) → IsPlaceWithin set dir 1 p place → IsUpTo dir place p
+place_past : (set : ℤ → Bool) (dir : Dir) (p place : ℤ) → IsPlaceWithin set dir 1 p place
+    → IsUpTo dir place p
 place_past set dir p place (inl e) =
     let P : ℤ → Type 0 = λ z. IsUpTo dir place z in
     subst P e (self_up_to dir place)
-place_past set dir p place (inr (x, c, here, inl e)) = before_it dir p place x (step_later dir p x c.0 c.1 c.2.later) e
+place_past set dir p place (inr (x, c, here, inl e)) = before_it dir p place x
+    (step_later dir p x c.0 c.1 c.2.later) e
 place_past set dir p place (inr (x, c, here, inr e)) =
-    subst (λ z. IsUpTo dir z p) (sym e) (one_on_up_to dir p x (step_later dir p x c.0 c.1 c.2.later))
+    subst (λ z. IsUpTo dir z p) (sym e)
+    (one_on_up_to dir p x (step_later dir p x c.0 c.1 c.2.later))
 
-pub place_in_range : (set : ℤ → Bool) (t : Token) (dir : Dir) (place : ℤ) → IsFit t → PlacesOfStep set t dir place → IsCalendarPosition place
+pub place_in_range : (set : ℤ → Bool) (t : Token) (dir : Dir) (place : ℤ) → IsFit t
+    → PlacesOfStep set t dir place → IsCalendarPosition place
 place_in_range set t dir place fit (same, within, is) =
     in_range-from t.dir place t.end.0
-    (trans_up_to t.dir (range_begin t.dir) t.place.0 place (place_from t.dir t.place.0 t.end.0 t.begun fit.1) (place_past set t.dir t.place.0 place is)) within fit.0
+    (trans_up_to t.dir (range_begin t.dir) t.place.0 place
+    (place_from t.dir t.place.0 t.end.0 t.begun fit.1) (place_past set t.dir t.place.0 place is))
+    within fit.0
 
 -- where no stop is due, none comes
-pub walks_on : (tree : Tree Meaning) (budget : ℕ) (t next : Token) (item : Item) → WalksTo (is_member tree) (IsDue tree) (window_of tree) budget t item next → IsAmpleAt (PlacesOfStep (is_member tree) t) (IsDue tree) budget → IsNoStop item
+pub walks_on : (tree : Tree Meaning) (budget : ℕ) (t next : Token) (item : Item)
+    → WalksTo (is_member tree) (IsDue tree) (window_of tree) budget t item next
+    → IsAmpleAt (PlacesOfStep (is_member tree) t) (IsDue tree) budget → IsNoStop item
 walks_on tree budget t next (items.Run run) h ample = tt
 walks_on tree budget t next (items.Done why) h ample = tt
-walks_on tree budget t next (items.Budget token) (on, (s, (stays, left, (dir, place, is, due)))) ample = absurd (ample dir place is s due.0)
+walks_on tree budget t next (items.Budget token) (on, (s, (stays, left, (dir, place, is, due))))
+    ample = absurd (ample dir place is s due.0)

@@ -30,7 +30,8 @@ ask_second-returns-in-Err-clause-due g t c =
     let k = nodes_of (meant_of_node c.args.a.now) in
     Due-numbered (meant_of_node c.args.b.now) 1 (2 + k) (1 + k) c.args.budget c.in-Err.stop
     c.after.result c.args.p.0 (omega arith)
-    (omega (arith, c.after.ensures.node, c.node_count.ensures)) c.after.ensures.at c.in-Err.ensures.due
+    (omega (arith, c.after.ensures.node, c.node_count.ensures)) c.after.ensures.at
+    c.in-Err.ensures.due
 
 pub holds_during-returns-then-le-clause-value : goal.holds_during-returns-then-le-clause-value
 holds_during-returns-then-le-clause-value g t c =

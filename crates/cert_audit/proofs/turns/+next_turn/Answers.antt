@@ -150,10 +150,12 @@ shifted_turn-next_turn-requires g t c = λ κs alive.
     let n = reach_of (meant_of_node c.args.a.now) in
     let fits = c.ranges.seconds in
     let here : HasRoom n c.earlier.result.0 =
-    subst (HasRoom n) (sym (simp to_z-of_z at c.earlier.ensures)) (room_earlier n c.args.seconds c.args.p.0
+    subst (HasRoom n) (sym (simp to_z-of_z at c.earlier.ensures))
+    (room_earlier n c.args.seconds c.args.p.0
     c.requires.here) in
     let there : HasRoom n c.earlier-2.result.0 =
-    subst (HasRoom n) (sym (simp to_z-of_z at c.earlier-2.ensures)) (room_earlier n c.args.seconds c.args.end.0
+    subst (HasRoom n) (sym (simp to_z-of_z at c.earlier-2.ensures))
+    (room_earlier n c.args.seconds c.args.end.0
     c.requires.there) in
     (omega (arith, c.decreases), (alive, (c.requires.sound, (here, there))))
 
@@ -163,10 +165,12 @@ shifted_turn-later-requires-clause-p g t c =
     let n = reach_of a in
     let fits = c.ranges.seconds in
     let here : HasRoom n c.earlier.result.0 =
-    subst (HasRoom n) (sym (simp to_z-of_z at c.earlier.ensures)) (room_earlier n c.args.seconds c.args.p.0
+    subst (HasRoom n) (sym (simp to_z-of_z at c.earlier.ensures))
+    (room_earlier n c.args.seconds c.args.p.0
     c.requires.here) in
     let there : HasRoom n c.earlier-2.result.0 =
-    subst (HasRoom n) (sym (simp to_z-of_z at c.earlier-2.ensures)) (room_earlier n c.args.seconds c.args.end.0
+    subst (HasRoom n) (sym (simp to_z-of_z at c.earlier-2.ensures))
+    (room_earlier n c.args.seconds c.args.end.0
     c.requires.there) in
     room_small n c.in-Some.turn.place.0 (room_turn (is_member a) c.args.dir c.earlier.result.0
     c.earlier-2.result.0 c.in-Some.turn n here there c.in-Some.ensures.turn)

@@ -8,7 +8,8 @@ use Rattle.civil_core.proofs.dates.date_parts.Goals as goal
 
 pub returns : goal.returns
 returns c =
-    let date : epoch_day c.date_of_day-date.result ≡ c.args.day = omega (arith, signed_casts, c.date_of_day-date.ensures) in
+    let date : epoch_day c.date_of_day-date.result ≡ c.args.day =
+    omega (arith, signed_casts, c.date_of_day-date.ensures) in
     let p = parts-is c.date_of_day-date.result c.args.day date in
     let bounds = part_bounds c.args.day in
     let months = month_of-is c.args.day in

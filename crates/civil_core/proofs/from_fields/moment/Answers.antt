@@ -9,7 +9,12 @@ returns-in_err-day_number-clause-some c =
     let none = rw year at c.in_err-day_number.ensures.some in
     rw c.from_residual.ensures (
       λ e. absurd (true≢false (sym e)),
-      λ h. none.1 (IsYear-of_civil c.args.year c.args.month c.args.day c.args.hour c.args.minute c.args.second h.0 h.1, h.0.0, h.0.1),
+      λ h. none.1 (
+        IsYear-of_civil c.args.year c.args.month c.args.day c.args.hour c.args.minute
+            c.args.second h.0 h.1,
+        h.0.0,
+        h.0.1,
+      ),
     )
 
 pub returns-then-in_work-clause-some : goal.returns-then-in_work-clause-some
@@ -20,8 +25,13 @@ returns-then-in_work-clause-some c =
     let day_number = rw year at c.in_ok-day_number.ensures.value in
     let bound = c.in_ok-day_number.ensures.bound in
     let seconds = c.in_ok-time.ensures.value in
-    let working = c.if-in_work.ensures.0 refl in
-    (λ _. ((date.1, date.2, time.0, time.1, time.2), (omega (arith, signed_casts), omega (arith, signed_casts))), λ _. refl)
+    let working = c.if-in_work.ensures.0 refl in (
+      λ _. (
+        (date.1, date.2, time.0, time.1, time.2),
+        (omega (arith, signed_casts), omega (arith, signed_casts)),
+      ),
+      λ _. refl,
+    )
 
 pub returns-then-in_work-clause-value : goal.returns-then-in_work-clause-value
 returns-then-in_work-clause-value c =
@@ -36,5 +46,11 @@ returns-else-in_work-clause-some c =
     let time = c.in_ok-time.ensures.some.0 refl in
     let day_number = rw year at c.in_ok-day_number.ensures.value in
     let bound = c.in_ok-day_number.ensures.bound in
-    let seconds = c.in_ok-time.ensures.value in
-    (λ e. absurd (true≢false (sym e)), λ h. c.if-in_work.ensures.1 (omega (arith, signed_casts, h.1), omega (arith, signed_casts, h.1)))
+    let seconds = c.in_ok-time.ensures.value in (
+      λ e. absurd (true≢false (sym e)),
+      λ h. c.if-in_work.ensures.1 (
+        omega (arith, signed_casts, h.1),
+        omega
+            (arith, signed_casts, h.1),
+      ),
+    )

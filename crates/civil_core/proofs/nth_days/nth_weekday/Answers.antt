@@ -15,7 +15,11 @@ returns-in_err-first-clause-some c =
     let P : ℤ → Type 0 = λ z. IsWorkingMoment z in
     rw c.from_residual.ensures (
       λ e. absurd (true≢false (sym e)),
-      λ h. none.1 (IsYear-of_midnight c.args.year c.args.month c.args.nth c.args.day h.1.0 h.1.1 (subst P h.1.2 h.2), h.1.1.in_year),
+      λ h. none.1 (
+        IsYear-of_midnight c.args.year c.args.month c.args.nth c.args.day h.1.0 h.1.1
+            (subst P h.1.2 h.2),
+        h.1.1.in_year,
+      ),
     )
 
 pub returns-in_err-place-clause-some : goal.returns-in_err-place-clause-some
@@ -27,25 +31,44 @@ returns-in_err-place-clause-some c =
     let last = rw year at c.count_from-count.ensures.last in
     let past = rw year at c.count_from-count.ensures.past in
     let none = rw nth at c.in_err-place.ensures.some in
-    let are : AreOfWeekday c.args.year c.args.month c.args.day c.in_ok-first.first c.count_from-count.result = record { in_year = found.1; first_week = c.in_ok-first.ensures.within; on_weekday = on_weekday; last = last; past = past } in
+    let are : AreOfWeekday c.args.year c.args.month c.args.day c.in_ok-first.first
+    c.count_from-count.result = record {
+      in_year = found.1;
+      first_week =
+          c.in_ok-first.ensures.within;
+      on_weekday = on_weekday;
+      last = last;
+      past = past;
+    } in
     rw c.from_residual-in_err-place.ensures (
       λ e. absurd (true≢false (sym e)),
-      λ h. none.1 (size-of_IsNthDay c.args.year c.args.month c.args.nth c.args.day c.in_ok-first.first c.count_from-count.result h.1.0 are h.1.1),
+      λ h. none.1 (size-of_IsNthDay c.args.year c.args.month c.args.nth c.args.day
+          c.in_ok-first.first c.count_from-count.result h.1.0 are h.1.1),
     )
 
-are : (c : After-moment) → AreOfWeekday c.args.year c.args.month c.args.day c.in_ok-first.first c.count_from-count.result
+are : (c : After-moment) → AreOfWeekday c.args.year c.args.month c.args.day c.in_ok-first.first
+    c.count_from-count.result
 are c =
     let year : to_z w32 (of_z w32 c.args.year) ≡ c.args.year = omega (arith, signed_casts) in
     let found = (rw year at c.in_ok-first.ensures.some).0 refl in
-    record { in_year = found.1; first_week = c.in_ok-first.ensures.within; on_weekday = rw year at c.in_ok-first.ensures.value; last = rw year at c.count_from-count.ensures.last; past = rw year at c.count_from-count.ensures.past }
+    record {
+      in_year = found.1;
+      first_week = c.in_ok-first.ensures.within;
+      on_weekday =
+          rw year at c.in_ok-first.ensures.value;
+      last = rw year at c.count_from-count.ensures.last;
+      past = rw year at c.count_from-count.ensures.past;
+    }
 
 at_n : (c : After-moment) → at_place c.args.nth c.count_from-count.result c.in_ok-place.place ≡ true
 at_n c =
     let nth : to_z w8 (of_z w8 c.args.nth) ≡ c.args.nth = omega (arith, signed_casts) in
     rw nth at c.in_ok-place.ensures.value
 
-is_day : (c : After-moment) → IsNthDay c.args.year c.args.month c.args.nth c.args.day (c.in_ok-first.first + 7 * c.in_ok-place.place)
-is_day c = IsNthDay-at_place c.args.year c.args.month c.args.nth c.args.day c.in_ok-first.first c.count_from-count.result c.in_ok-place.place (are c) c.in_ok-place.ensures.within (at_n c)
+is_day : (c : After-moment) → IsNthDay c.args.year c.args.month c.args.nth c.args.day
+    (c.in_ok-first.first + 7 * c.in_ok-place.place)
+is_day c = IsNthDay-at_place c.args.year c.args.month c.args.nth c.args.day c.in_ok-first.first
+    c.count_from-count.result c.in_ok-place.place (are c) c.in_ok-place.ensures.within (at_n c)
 
 pub returns-clause-some : goal.returns-clause-some
 returns-clause-some c =
@@ -58,16 +81,30 @@ returns-clause-some c =
     let is = is_day c in (
       λ e. (t, (day, is, refl), (some.0 e).1),
       λ h.
-          let same = day-at_place c.args.year c.args.month c.args.nth c.args.day c.in_ok-first.first c.count_from-count.result c.in_ok-place.place h.1.0 (are c) c.in_ok-place.ensures.within (at_n c) h.1.1 in
-          some.1 ((is.in_year, is.in_month, (omega arith, omega arith), (omega arith, omega arith), (omega arith, omega arith)), subst Q same (subst P h.1.2 h.2)),
+          let same = day-at_place c.args.year c.args.month c.args.nth c.args.day c.in_ok-first.first
+          c.count_from-count.result c.in_ok-place.place h.1.0 (are c) c.in_ok-place.ensures.within
+          (at_n c) h.1.1 in
+          some.1 (
+            (
+              is.in_year,
+              is.in_month,
+              (omega arith, omega arith),
+              (omega arith, omega arith),
+              (omega arith, omega arith),
+            ),
+            subst Q same (subst P h.1.2 h.2),
+          ),
     )
 
 -- what is said of the moment that was found
-is_midnight : (o : Option Moment) (year : ℤ) (month : ℕ) (n : ℤ) (weekday day : ℕ) → IsNthDay year month n weekday day → IfSome o (λ t. t.0 ≡ seconds_of year month day 0 0 0) → IfSome o (λ t. IsNthMidnight year month n weekday t.0)
+is_midnight : (o : Option Moment) (year : ℤ) (month : ℕ) (n : ℤ) (weekday day : ℕ)
+    → IsNthDay year month n weekday day → IfSome o (λ t. t.0 ≡ seconds_of year month day 0 0 0)
+    → IfSome o (λ t. IsNthMidnight year month n weekday t.0)
 is_midnight (Some t) year month n weekday day is e = (day, is, e)
 is_midnight None year month n weekday day is e = tt
 
 pub returns-clause-value : goal.returns-clause-value
 returns-clause-value c =
     let year : to_z w32 (of_z w32 c.args.year) ≡ c.args.year = omega (arith, signed_casts) in
-    is_midnight c.moment.result c.args.year c.args.month c.args.nth c.args.day (c.in_ok-first.first + 7 * c.in_ok-place.place) (is_day c) (rw year at c.moment.ensures.value)
+    is_midnight c.moment.result c.args.year c.args.month c.args.nth c.args.day
+    (c.in_ok-first.first + 7 * c.in_ok-place.place) (is_day c) (rw year at c.moment.ensures.value)

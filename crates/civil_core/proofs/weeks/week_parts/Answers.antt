@@ -7,13 +7,33 @@ use Rattle.civil_core.proofs.WorkingDays.{week_years-of_working_day}
 use Rattle.civil_core.proofs.weeks.week_parts.Goals as goal
 
 pub overflow_sub-after-2 : goal.overflow_sub-after-2
-overflow_sub-after-2 c = omega (arith, signed_casts, c.day_of_year.ensures, c.days_in_year.ensures, ordinal-within c.fourth_day-fourth.result)
+overflow_sub-after-2 c = omega (
+  arith,
+  signed_casts,
+  c.day_of_year.ensures,
+  c.days_in_year.ensures,
+  ordinal-within c.fourth_day-fourth.result,
+)
 
 pub overflow_cast-result : goal.overflow_cast-result
-overflow_cast-result c = omega (arith, signed_casts, c.day_of_year.ensures, ordinal-within c.fourth_day-fourth.result)
+overflow_cast-result c = omega (
+  arith,
+  signed_casts,
+  c.day_of_year.ensures,
+  ordinal-within
+      c.fourth_day-fourth.result,
+)
 
 pub overflow_cast-result-2 : goal.overflow_cast-result-2
-overflow_cast-result-2 c = omega (arith, signed_casts, c.day_of_year.ensures, c.days_in_year.ensures, ordinal-within c.fourth_day-fourth.result)
+overflow_cast-result-2 c =
+    omega (
+      arith,
+      signed_casts,
+      c.day_of_year.ensures,
+      c.days_in_year.ensures,
+      ordinal-within
+          c.fourth_day-fourth.result,
+    )
 
 pub returns : goal.returns
 returns c =
@@ -29,7 +49,23 @@ returns c =
       week = omega (arith, signed_casts, c.day_of_year.ensures);
       week_year = omega (arith, signed_casts, c.year.ensures);
       weeks = omega (arith, signed_casts, c.day_of_year.ensures, c.days_in_year.ensures);
-      week_years = (omega (arith, signed_casts, c.year.ensures), omega (arith, signed_casts, c.year.ensures));
-      numbers = (omega (arith, signed_casts), omega (arith, signed_casts, c.day_of_year.ensures, c.days_in_year.ensures));
-      counts = (omega (arith, signed_casts, c.day_of_year.ensures, c.days_in_year.ensures), omega (arith, signed_casts, c.day_of_year.ensures, c.days_in_year.ensures));
+      week_years = (
+        omega (arith, signed_casts, c.year.ensures),
+        omega
+            (arith, signed_casts, c.year.ensures),
+      );
+      numbers = (
+        omega (arith, signed_casts),
+        omega (
+          arith,
+          signed_casts,
+          c.day_of_year.ensures,
+          c.days_in_year.ensures,
+        ),
+      );
+      counts = (
+        omega (arith, signed_casts, c.day_of_year.ensures, c.days_in_year.ensures),
+        omega
+            (arith, signed_casts, c.day_of_year.ensures, c.days_in_year.ensures),
+      );
     }

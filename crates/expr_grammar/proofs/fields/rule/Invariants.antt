@@ -7,7 +7,8 @@ use Rattle.expr_grammar.proofs.fields.rule.Given as goal
 
 abbrev pub invariant-fields : goal.invariant-fields
 invariant-fields l = record {
-  read : FieldsGoOn l.freq (map field_form l.fields.items) (plains l.rest) (rule_at (plains l.fn.tokens));
+  read : FieldsGoOn l.freq (map field_form l.fields.items) (plains l.rest)
+      (rule_at (plains l.fn.tokens));
   places : span_places l.fn.tokens ≡ span_places l.rest;
   within : length l.rest ≤ length l.fn.tokens;
 }

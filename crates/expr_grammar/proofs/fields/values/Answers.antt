@@ -11,10 +11,14 @@ numbers-preserved c =
     let fits : FitsSigned w64 n = search rules in
     let same : to_z w64 (of_z w64 n) ≡ n = rw to_z-of_z refl in
     record {
-      read = rw (c.in_ok-push-2.ensures.items, same) (ap (with_key c.in_ok-key.key) (sym (next_read c.numbers.found.items (plains c.numbers.rest.now) c.in-Some.n (plains c.in-Some.after.now) c.in-Some.ensures.read)) ∙ c.numbers.invariant.read);
+      read = rw (c.in_ok-push-2.ensures.items, same)
+          (ap (with_key c.in_ok-key.key)
+          (sym (next_read c.numbers.found.items (plains c.numbers.rest.now) c.in-Some.n
+          (plains c.in-Some.after.now) c.in-Some.ensures.read)) ∙ c.numbers.invariant.read);
       places = c.numbers.invariant.places ∙ sym c.in-Some.ensures.places;
       within = omega (arith, c.numbers.invariant.within, c.in-Some.ensures.shorter);
     }
 
 pub returns-clause-read : goal.returns-clause-read
-returns-clause-read c = sym c.numbers.invariant.read ∙ ap (with_key c.in_ok-key.key) (none_read c.numbers.found.items (plains c.numbers.rest.now) c.in_default.ensures.none)
+returns-clause-read c = sym c.numbers.invariant.read ∙ ap (with_key c.in_ok-key.key)
+    (none_read c.numbers.found.items (plains c.numbers.rest.now) c.in_default.ensures.none)

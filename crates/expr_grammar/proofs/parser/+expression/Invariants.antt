@@ -28,7 +28,8 @@ decreases-nested l = 12 * l.depth + 10
 
 abbrev pub invariant-chain-operands : goal.invariant-chain-operands
 invariant-chain-operands l = record {
-  read : GoesOn (operand_at (atom_at l.depth) l.op) l.op (form_of l.left) (plains l.rest) (chain_at (operand_at (atom_at l.depth) l.op) l.op (plains l.fn.tokens));
+  read : GoesOn (operand_at (atom_at l.depth) l.op) l.op (form_of l.left) (plains l.rest)
+      (chain_at (operand_at (atom_at l.depth) l.op) l.op (plains l.fn.tokens));
   places : span_places l.fn.tokens ≡ places_of l.left ++ span_places l.rest;
   within : length l.rest ≤ length l.fn.tokens;
 }

@@ -5,4 +5,5 @@ use Rattle.expr_text.proofs.Calls.{calls_left}
 use Rattle.expr_text.proofs.finding.calls_unbuilt.Given as goal
 
 abbrev pub invariant-loop-token : goal.invariant-loop-token
-invariant-loop-token l = calls_left l.named (plains (drop l.token-index l.tokens)) ≡ calls_unbuilt (plains l.tokens)
+invariant-loop-token l = calls_left l.named (plains (drop l.token-index l.tokens))
+    ≡ calls_unbuilt (plains l.tokens)

@@ -18,13 +18,15 @@ pub returns-clause-well_formed : goal.returns-clause-well_formed
 returns-clause-well_formed c =
     let g = c.grammar_laws.ensures in
     let b = c.bound_laws.ensures in
-    λ text p h. (accepted g.one g.decided g.moments g.spans b.low b.high c.text_laws.ensures.writable text p h).well_formed
+    λ text p h. (accepted g.one g.decided g.moments g.spans b.low b.high
+    c.text_laws.ensures.writable text p h).well_formed
 
 pub returns-clause-sorted : goal.returns-clause-sorted
 returns-clause-sorted c =
     let g = c.grammar_laws.ensures in
     let b = c.bound_laws.ensures in
-    λ text p h. (accepted g.one g.decided g.moments g.spans b.low b.high c.text_laws.ensures.writable text p h).sorted
+    λ text p h. (accepted g.one g.decided g.moments g.spans b.low b.high
+    c.text_laws.ensures.writable text p h).sorted
 
 pub returns-clause-long : goal.returns-clause-long
 returns-clause-long c = long_reading
@@ -42,4 +44,5 @@ returns-clause-printed c =
       strings = w.strings;
       numbers = w.numbers;
       moments = w.moments;
-    }) c.rule_laws.ensures.field_values c.rule_laws.ensures.field_interval c.text_laws.ensures.back c.text_laws.ensures.plain
+    }) c.rule_laws.ensures.field_values c.rule_laws.ensures.field_interval c.text_laws.ensures.back
+    c.text_laws.ensures.plain

@@ -13,17 +13,24 @@ use Rattle.expr_text.proofs.reading.spelled.Goals as goal
 
 pub returns-then-calls_unbuilt-clause-answer : goal.returns-then-calls_unbuilt-clause-answer
 returns-then-calls_unbuilt-clause-answer c = λ found are.
-    fails faults.Unbuilt (unbuilt_tokens c.args.tokens.now found are (sym c.calls_unbuilt.ensures ∙ c.if-calls_unbuilt.true))
+    fails faults.Unbuilt (unbuilt_tokens c.args.tokens.now found are (sym c.calls_unbuilt.ensures
+    ∙ c.if-calls_unbuilt.true))
 
 pub returns-in-Ok-clause-answer : goal.returns-in-Ok-clause-answer
 returns-in-Ok-clause-answer c = λ found are.
     let p = forms_of c.in-Ok.trees in
-    let spells = subst (Spells p) (kinds_same c.args.tokens.now found are) c.in-Ok.ensures.spelled in
+    let spells = subst (Spells p) (kinds_same c.args.tokens.now found are)
+    c.in-Ok.ensures.spelled in
     passes (By unless_unbuilt) _ found found (told trees_of_sorted c.dated.result)
-    (built_tokens c.args.tokens.now found are (sym c.calls_unbuilt.ensures ∙ c.if-calls_unbuilt.false))
-    (passes IsSpelled _ found (record { tokens = found; forms = p }) (told trees_of_sorted c.dated.result) (spelled p spells) (c.dated.ensures.answer found are))
+    (built_tokens c.args.tokens.now found are (sym c.calls_unbuilt.ensures
+    ∙ c.if-calls_unbuilt.false))
+    (passes IsSpelled _ found (record { tokens = found; forms = p })
+    (told trees_of_sorted c.dated.result) (spelled p spells) (c.dated.ensures.answer found are))
 
 pub returns-in-Err-Syntax-clause-answer : goal.returns-in-Err-Syntax-clause-answer
 returns-in-Err-Syntax-clause-answer c = λ found are.
-    goes_on found _ (built_tokens c.args.tokens.now found are (sym c.calls_unbuilt.ensures ∙ c.if-calls_unbuilt.false))
-    (fails faults.Syntax (unspelled (λ (p : Forms) s. c.in-Err-Syntax.ensures.syntax (search rules) p (subst (Spells p) (sym (kinds_same c.args.tokens.now found are)) s))))
+    goes_on found _ (built_tokens c.args.tokens.now found are (sym c.calls_unbuilt.ensures
+    ∙ c.if-calls_unbuilt.false))
+    (fails faults.Syntax
+    (unspelled (λ (p : Forms) s. c.in-Err-Syntax.ensures.syntax (search rules) p
+    (subst (Spells p) (sym (kinds_same c.args.tokens.now found are)) s))))

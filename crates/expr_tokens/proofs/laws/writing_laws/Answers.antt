@@ -23,7 +23,9 @@ pub returns-clause-strings : goal.returns-clause-strings
 returns-clause-strings c = Lexes-string
 
 pub returns-clause-numbers : goal.returns-clause-numbers
-returns-clause-numbers c = Lexes-number c.literal_laws.ensures.form c.literal_laws.ensures.longest c.literal_laws.ensures.end
+returns-clause-numbers c = Lexes-number c.literal_laws.ensures.form c.literal_laws.ensures.longest
+    c.literal_laws.ensures.end
 
 pub returns-clause-moments : goal.returns-clause-moments
-returns-clause-moments c = Lexes-moment c.literal_laws.ensures.form c.literal_laws.ensures.longest c.literal_laws.ensures.end c.literal_laws.ensures.shaped c.literal_laws.ensures.apart
+returns-clause-moments c = Lexes-moment c.literal_laws.ensures.form c.literal_laws.ensures.longest
+    c.literal_laws.ensures.end c.literal_laws.ensures.shaped c.literal_laws.ensures.apart

@@ -6,7 +6,8 @@ use Rattle.field_rules.proofs.days.day_test.Goals as goal
 pub returns : goal.returns
 returns c =
     let r = c.args.rule.now in
-    days_same c.calendar_laws.ensures.week_years_hold_days c.table_laws.ensures.signed c.table_laws.ensures.weekdays (counted r) r _ (record {
+    days_same c.calendar_laws.ensures.week_years_hold_days c.table_laws.ensures.signed
+    c.table_laws.ensures.weekdays (counted r) r _ (record {
       months = c.months.ensures;
       weeks = c.weeks.ensures;
       first = c.first_weekday.ensures;

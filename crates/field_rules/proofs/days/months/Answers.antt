@@ -10,9 +10,11 @@ use Rattle.field_rules.proofs.days.months.Goals as goal
 pub mask_of-requires-clause-values : goal.mask_of-requires-clause-values
 mask_of-requires-clause-values c =
     let P : List ℤ → Type 0 = λ values. All (IsValue 13) values in
-    subst P (sym c.months_of.ensures) (months_are (counted c.args.rule.now) c.args.rule.now c.rule_laws.ensures.field_values c.requires)
+    subst P (sym c.months_of.ensures) (months_are (counted c.args.rule.now) c.args.rule.now
+    c.rule_laws.ensures.field_values c.requires)
 
 pub returns : goal.returns
 returns c = λ k within.
-    mask_part c.mask_of.result 13 k c.months_of.result.now c.mask_of.ensures.none (c.mask_of.ensures.bits k (omega (arith, within.1)))
+    mask_part c.mask_of.result 13 k c.months_of.result.now c.mask_of.ensures.none
+    (c.mask_of.ensures.bits k (omega (arith, within.1)))
     ∙ ap (λ values. meets_part values 13 k) c.months_of.ensures

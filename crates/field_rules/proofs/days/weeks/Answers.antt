@@ -8,4 +8,5 @@ use Rattle.field_rules.proofs.days.weeks.Goals as goal
 pub fill-requires-clause-entries : goal.fill-requires-clause-entries
 fill-requires-clause-entries c =
     let P : List ℤ → Type 0 = λ values. All (IsEntry 64) values in
-    subst P (sym c.weeks_of.ensures) (weeks_are (counted c.args.rule.now) c.args.rule.now c.rule_laws.ensures.field_values c.requires)
+    subst P (sym c.weeks_of.ensures) (weeks_are (counted c.args.rule.now) c.args.rule.now
+    c.rule_laws.ensures.field_values c.requires)

@@ -3,4 +3,5 @@ use Rattle.field_rules.proofs.laws.field_laws.Goals as goal
 
 pub returns : goal.returns
 returns c =
-    checked_rules_repeat c.period_laws.ensures.rule c.rule_laws.ensures.field_repeats c.rule_laws.ensures.field_interval
+    checked_rules_repeat c.period_laws.ensures.rule c.rule_laws.ensures.field_repeats
+    c.rule_laws.ensures.field_interval

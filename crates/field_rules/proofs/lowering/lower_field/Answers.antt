@@ -9,4 +9,6 @@ pub returns : goal.returns
 returns c =
     let P : Sieve → Type 0 = λ s. IsSieveOfRule c.args.rule.now s in
     let Q : Sieve → Type 0 = λ s. IsWholeSieve s in
-    means_same c.args.rule.now c.guarded.result (subst P (sym c.guarded.ensures) c.sieve_of.ensures.rule) (subst Q (sym c.guarded.ensures) c.sieve_of.ensures.whole)
+    means_same c.args.rule.now c.guarded.result
+    (subst P (sym c.guarded.ensures) c.sieve_of.ensures.rule)
+    (subst Q (sym c.guarded.ensures) c.sieve_of.ensures.whole)

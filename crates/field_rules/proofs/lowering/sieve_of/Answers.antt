@@ -6,7 +6,8 @@ use Rattle.field_rules.proofs.lowering.sieve_of.Goals as goal
 pub returns-clause-rule : goal.returns-clause-rule
 returns-clause-rule c =
     let within = c.phase_of.ensures.within in
-    let phase : to_z w64 (of_z w64 c.phase_of.result) ≡ c.phase_of.result = omega (arith, ints, within.0, within.1) in
+    let phase : to_z w64 (of_z w64 c.phase_of.result) ≡ c.phase_of.result =
+    omega (arith, ints, within.0, within.1) in
     record {
       unit = c.unit_of.ensures;
       interval = c.interval_of.ensures.value;

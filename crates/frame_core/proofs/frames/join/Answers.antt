@@ -16,7 +16,8 @@ pub returns-clause-value : goal.returns-clause-value
 returns-clause-value c = sym (is_joined c)
 
 pub returns-clause-period : goal.returns-clause-period
-returns-clause-period c = join_of-IsPeriod c.args.a c.args.b (joined c) c.requires.a c.requires.b (is_joined c)
+returns-clause-period c = join_of-IsPeriod c.args.a c.args.b (joined c) c.requires.a c.requires.b
+    (is_joined c)
 
 pub returns-clause-repeats : goal.returns-clause-repeats
 returns-clause-repeats c f g op r s =

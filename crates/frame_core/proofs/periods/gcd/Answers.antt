@@ -7,4 +7,5 @@ pub loop-y-preserved : goal.loop-y-preserved
 loop-y-preserved c g h = c.loop-y.invariant g (IsGcd-from_mod _ _ g h)
 
 pub returns : goal.returns
-returns c = greatest_common-is c.args.a c.args.b _ (c.loop-y.invariant _ (IsGcd-from_zero _ _ (omega arith)))
+returns c = greatest_common-is c.args.a c.args.b _
+    (c.loop-y.invariant _ (IsGcd-from_zero _ _ (omega arith)))

@@ -7,4 +7,5 @@ nonzero_div-a c = gcd_some c.args.a c.args.b c.gcd.result c.requires.a c.gcd.ens
 
 pub returns : goal.returns
 returns c =
-    c.product_in_width.ensures ∙ in_width-least_common c.args.a c.args.b c.gcd.result c.requires.a c.gcd.ensures
+    c.product_in_width.ensures ∙ in_width-least_common c.args.a c.args.b c.gcd.result c.requires.a
+    c.gcd.ensures

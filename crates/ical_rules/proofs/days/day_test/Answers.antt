@@ -8,7 +8,8 @@ unfolding filled
 returns c = record {
   months = c.months.ensures;
   first = refl;
-  weekday = subst (λ (n : ℕ). IsInRange 1 7 n) c.number-first.ensures.value c.number-first.ensures.within;
+  weekday = subst (λ (n : ℕ). IsInRange 1 7 n) c.number-first.ensures.value
+      c.number-first.ensures.within;
   weeks = c.weeks.ensures;
   year_days = c.year_days.ensures;
   month_days = c.month_days.ensures;

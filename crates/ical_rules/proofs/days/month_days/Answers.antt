@@ -13,11 +13,17 @@ signed_word-requires c =
     let r = c.args.rule.now in
     let start = c.requires.start in
     let P : List ℤ → Type 0 = λ values. All (IsEntry 32) values in
-    let listed = taken_list c.or_taken.result.now c.items.result.now r.by_month_day c.takes_month_day.result (takes_month_day r) _ _ c.or_taken.ensures c.items.ensures c.takes_month_day.ensures
-    (small c.args.start.now.day (day_of_month (day_of (start_of r))) start.month_day (omega (arith, start.month_days.1))) in
+    let listed = taken_list c.or_taken.result.now c.items.result.now r.by_month_day
+    c.takes_month_day.result (takes_month_day r) _ _ c.or_taken.ensures c.items.ensures
+    c.takes_month_day.ensures
+    (small c.args.start.now.day (day_of_month (day_of (start_of r))) start.month_day
+    (omega (arith, start.month_days.1))) in
     subst P (sym listed)
-    (taken_are (IsEntry 32) (takes_month_day r) (pos (day_of_month (day_of (start_of r)))) r.by_month_day
-    (entry_small (day_of_month (day_of (start_of r))) 32 (omega (arith, start.month_day, start.month_days.0)) (omega (arith, start.month_day, start.month_days.1)))
+    (taken_are (IsEntry 32) (takes_month_day r) (pos (day_of_month (day_of (start_of r))))
+    r.by_month_day
+    (entry_small (day_of_month (day_of (start_of r))) 32
+    (omega (arith, start.month_day, start.month_days.0))
+    (omega (arith, start.month_day, start.month_days.1)))
     (month_days_are c.rule_laws.ensures.ical_values r c.requires.checked))
 
 pub returns : goal.returns
@@ -26,6 +32,9 @@ returns c =
     let r = c.args.rule.now in
     let start = c.requires.start in
     let P : List ℤ → Type 0 = λ values. IsTableOf (c.signed_word.result ∷ []) 32 values in
-    let listed = taken_list c.or_taken.result.now c.items.result.now r.by_month_day c.takes_month_day.result (takes_month_day r) _ _ c.or_taken.ensures c.items.ensures c.takes_month_day.ensures
-    (small c.args.start.now.day (day_of_month (day_of (start_of r))) start.month_day (omega (arith, start.month_days.1))) in
+    let listed = taken_list c.or_taken.result.now c.items.result.now r.by_month_day
+    c.takes_month_day.result (takes_month_day r) _ _ c.or_taken.ensures c.items.ensures
+    c.takes_month_day.ensures
+    (small c.args.start.now.day (day_of_month (day_of (start_of r))) start.month_day
+    (omega (arith, start.month_days.1))) in
     subst P listed c.signed_word.ensures

@@ -17,15 +17,21 @@ pub weekday_tables-requires : goal.weekday_tables-requires
 weekday_tables-requires c =
     let r = c.args.rule.now in
     let P : List DayItem → Type 0 = λ items. All IsDayEntry items in
-    let listed = taken_list c.or_taken.result.now c.items.result.now r.by_day c.takes_weekday.result (takes_weekday r) _ _ c.or_taken.ensures c.items.ensures c.takes_weekday.ensures (ap itself c.requires.start.weekday) in
+    let listed = taken_list c.or_taken.result.now c.items.result.now r.by_day c.takes_weekday.result
+    (takes_weekday r) _ _ c.or_taken.ensures c.items.ensures c.takes_weekday.ensures
+    (ap itself c.requires.start.weekday) in
     subst P (sym listed)
-    (taken_are IsDayEntry (takes_weekday r) (itself (weekday_of (day_of (start_of r)))) r.by_day (omega (arith, ints), omega (arith, ints))
+    (taken_are IsDayEntry (takes_weekday r) (itself (weekday_of (day_of (start_of r)))) r.by_day
+    (omega (arith, ints), omega (arith, ints))
     (days_are c.rule_laws.ensures.ical_values r c.requires.checked))
 
 pub returns : goal.returns
 unfolding filled
 returns c =
     let r = c.args.rule.now in
-    let P : List DayItem → Type 0 = λ items. IsDayTableOf c.weekday_tables.result.0 c.weekday_tables.result.1 items in
-    let listed = taken_list c.or_taken.result.now c.items.result.now r.by_day c.takes_weekday.result (takes_weekday r) _ _ c.or_taken.ensures c.items.ensures c.takes_weekday.ensures (ap itself c.requires.start.weekday) in
+    let P : List DayItem → Type 0 =
+    λ items. IsDayTableOf c.weekday_tables.result.0 c.weekday_tables.result.1 items in
+    let listed = taken_list c.or_taken.result.now c.items.result.now r.by_day c.takes_weekday.result
+    (takes_weekday r) _ _ c.or_taken.ensures c.items.ensures c.takes_weekday.ensures
+    (ap itself c.requires.start.weekday) in
     subst P listed c.weekday_tables.ensures

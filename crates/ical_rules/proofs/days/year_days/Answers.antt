@@ -7,4 +7,5 @@ use Rattle.ical_rules.proofs.days.year_days.Goals as goal
 pub fill-requires-clause-entries : goal.fill-requires-clause-entries
 fill-requires-clause-entries c =
     let P : List ℤ → Type 0 = λ values. All (IsEntry 384) values in
-    subst P (sym c.items.ensures) (year_days_are c.rule_laws.ensures.ical_values c.args.rule.now c.requires)
+    subst P (sym c.items.ensures) (year_days_are c.rule_laws.ensures.ical_values c.args.rule.now
+    c.requires)

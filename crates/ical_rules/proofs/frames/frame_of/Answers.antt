@@ -3,7 +3,8 @@ use Rattle.ical_rules.proofs.Checks.{until_is}
 use Rattle.ical_rules.proofs.frames.frame_of.Goals as goal
 
 pub frame_to-requires-clause-last : goal.frame_to-requires-clause-last
-frame_to-requires-clause-last c = until_is c.rule_laws.ensures.ical_values c.args.rule.now c.requires.checked c.rule_laws.ensures.until c.in-Some.until c.in-Some.is
+frame_to-requires-clause-last c = until_is c.rule_laws.ensures.ical_values c.args.rule.now
+    c.requires.checked c.rule_laws.ensures.until c.in-Some.until c.in-Some.is
 
 pub returns-in-Some : goal.returns-in-Some
 unfolding frame_of_ical

@@ -13,7 +13,9 @@ use Rattle.ical_rules.proofs.lowering.lower.Goals as goal
 pub guarded-requires-clause-counted : goal.guarded-requires-clause-counted
 guarded-requires-clause-counted c =
     let s = c.sieve_of-sieve in
-    leaf-counted c.lowering_laws.ensures.members c.lowering_laws.ensures.tests c.args.rule.now c.args.count c.args.settled s.result s.ensures.rule c.requires.start c.requires.count c.requires.settled
+    leaf-counted c.lowering_laws.ensures.members c.lowering_laws.ensures.tests c.args.rule.now
+    c.args.count c.args.settled s.result s.ensures.rule c.requires.start c.requires.count
+    c.requires.settled
     (λ t. ap (λ (m : Moment). int_le t m.0) s.ensures.last ∙ c.last_of.ensures t) s.ensures.sieve
 
 pub guarded-requires-clause-framed : goal.guarded-requires-clause-framed
@@ -24,10 +26,13 @@ guarded-requires-clause-framed c =
     let rule = with_count c.args.count r in
     let P : (ℤ → Bool) → Type 0 = λ f. IsFramed f c.frame_of.result in
     let Q : Option Frame → Type 0 = λ o. IsFramed (has_ical rule) o in
-    let members = members-same c.lowering_laws.ensures.members c.lowering_laws.ensures.tests r c.args.count c.args.settled s.result s.ensures.rule c.requires.start c.requires.count c.requires.settled
+    let members = members-same c.lowering_laws.ensures.members c.lowering_laws.ensures.tests r
+    c.args.count c.args.settled s.result s.ensures.rule c.requires.start c.requires.count
+    c.requires.settled
     (λ t. ap (λ (m : Moment). int_le t m.0) s.ensures.last ∙ c.last_of.ensures t) in
     let least = (interval_is r.interval (laws.ical_interval r c.requires.checked)).0 in
-    let framed = framed-is c.period_laws.ensures.rule laws.ical_repeats rule c.requires.start (omega (arith, ints, least)) (until_is laws.ical_values r c.requires.checked laws.until) in
+    let framed = framed-is c.period_laws.ensures.rule laws.ical_repeats rule c.requires.start
+    (omega (arith, ints, least)) (until_is laws.ical_values r c.requires.checked laws.until) in
     subst P (sym members) (subst Q (sym c.frame_of.ensures) framed)
 
 pub returns : goal.returns
@@ -35,8 +40,13 @@ returns c =
     let s = c.sieve_of-sieve in
     let r = c.args.rule.now in
     let ends = λ (t : ℤ). ap (λ (m : Moment). int_le t m.0) s.ensures.last ∙ c.last_of.ensures t in
-    leaf-means (with_count c.args.count r) c.guarded.result s.result r.until c.args.count c.frame_of.result
+    leaf-means (with_count c.args.count r) c.guarded.result s.result r.until c.args.count
+    c.frame_of.result
     c.guarded.ensures.sieve c.guarded.ensures.until c.guarded.ensures.count c.guarded.ensures.frame
-    (members-same c.lowering_laws.ensures.members c.lowering_laws.ensures.tests r c.args.count c.args.settled s.result s.ensures.rule c.requires.start c.requires.count c.requires.settled ends)
-    (candidates-all_same c.lowering_laws.ensures.members c.lowering_laws.ensures.tests r c.args.count c.args.settled s.result s.ensures.rule c.requires.start c.requires.count c.requires.settled ends)
+    (members-same c.lowering_laws.ensures.members c.lowering_laws.ensures.tests r c.args.count
+    c.args.settled s.result s.ensures.rule c.requires.start c.requires.count c.requires.settled
+    ends)
+    (candidates-all_same c.lowering_laws.ensures.members c.lowering_laws.ensures.tests r
+    c.args.count c.args.settled s.result s.ensures.rule c.requires.start c.requires.count
+    c.requires.settled ends)
     c.frame_of.ensures

@@ -7,5 +7,6 @@ use Rattle.ical_rules.proofs.settling.search.Given as goal
 
 abbrev pub invariant-loop-passed : goal.invariant-loop-passed
 invariant-loop-passed l =
-    IsOnWay (has_counted l.leaf.sieve l.leaf.until l.leaf.count) (is_candidate l.leaf.sieve) l.fn.start.0 l.at.0 l._passed l.members l.count
+    IsOnWay (has_counted l.leaf.sieve l.leaf.until l.leaf.count) (is_candidate l.leaf.sieve)
+    l.fn.start.0 l.at.0 l._passed l.members l.count
     × IfSome l.known (IsKnown l.leaf.sieve)

@@ -16,7 +16,8 @@ pub new-requires-clause-counted : goal.new-requires-clause-counted
 new-requires-clause-counted c =
     let s = c.sieve_of-sieve in
     let r = c.args.rule.now in
-    leaf-counted c.lowering_laws.ensures.members c.lowering_laws.ensures.tests r None Open s.result s.ensures.rule c.requires.start (λ n e. absurd cc) (none_last r)
+    leaf-counted c.lowering_laws.ensures.members c.lowering_laws.ensures.tests r None Open s.result
+    s.ensures.rule c.requires.start (λ n e. absurd cc) (none_last r)
     (λ t. ap (λ (m : Moment). int_le t m.0) s.ensures.last ∙ c.last_of.ensures t) s.ensures.sieve
 
 pub returns : goal.returns
@@ -24,6 +25,9 @@ returns c =
     let s = c.sieve_of-sieve in
     let r = c.args.rule.now in
     let ends = λ (t : ℤ). ap (λ (m : Moment). int_le t m.0) s.ensures.last ∙ c.last_of.ensures t in
-    uncounted_from r c.new.result s.result c.new.ensures.sieve c.new.ensures.until c.new.ensures.count
-    (members-same c.lowering_laws.ensures.members c.lowering_laws.ensures.tests r None Open s.result s.ensures.rule c.requires.start (λ n e. absurd cc) (none_last r) ends)
-    (candidates-all_same c.lowering_laws.ensures.members c.lowering_laws.ensures.tests r None Open s.result s.ensures.rule c.requires.start (λ n e. absurd cc) (none_last r) ends)
+    uncounted_from r c.new.result s.result c.new.ensures.sieve c.new.ensures.until
+    c.new.ensures.count
+    (members-same c.lowering_laws.ensures.members c.lowering_laws.ensures.tests r None Open s.result
+    s.ensures.rule c.requires.start (λ n e. absurd cc) (none_last r) ends)
+    (candidates-all_same c.lowering_laws.ensures.members c.lowering_laws.ensures.tests r None Open
+    s.result s.ensures.rule c.requires.start (λ n e. absurd cc) (none_last r) ends)

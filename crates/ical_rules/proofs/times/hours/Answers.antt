@@ -15,10 +15,13 @@ listed_mask-requires-clause-values c =
     let r = c.args.rule.now in
     let start = c.requires.start in
     let P : List ℤ → Type 0 = λ values. All (IsPlain 24) values in
-    let listed = taken_list c.or_taken.result.now c.items.result.now r.by_hour c.may_give-is_taken.result (has_hours r.freq) _ _ c.or_taken.ensures c.items.ensures c.may_give-is_taken.ensures
+    let listed = taken_list c.or_taken.result.now c.items.result.now r.by_hour
+    c.may_give-is_taken.result (has_hours r.freq) _ _ c.or_taken.ensures c.items.ensures
+    c.may_give-is_taken.ensures
     (small c.args.start.now.hour (hour_of (start_of r)) start.hour (omega (arith, start.hours))) in
     subst P (sym listed)
-    (taken_are (IsPlain 24) (has_hours r.freq) (pos (hour_of (start_of r))) r.by_hour (omega (arith, ints), omega (arith, ints, start.hour, start.hours))
+    (taken_are (IsPlain 24) (has_hours r.freq) (pos (hour_of (start_of r))) r.by_hour
+    (omega (arith, ints), omega (arith, ints, start.hour, start.hours))
     (hours_are c.rule_laws.ensures.ical_values r c.requires.checked))
 
 pub returns : goal.returns
@@ -27,6 +30,8 @@ returns c =
     let r = c.args.rule.now in
     let start = c.requires.start in
     let P : List ℤ → Type 0 = λ values. IsMaskOf c.listed_mask.result 24 values in
-    let listed = taken_list c.or_taken.result.now c.items.result.now r.by_hour c.may_give-is_taken.result (has_hours r.freq) _ _ c.or_taken.ensures c.items.ensures c.may_give-is_taken.ensures
+    let listed = taken_list c.or_taken.result.now c.items.result.now r.by_hour
+    c.may_give-is_taken.result (has_hours r.freq) _ _ c.or_taken.ensures c.items.ensures
+    c.may_give-is_taken.ensures
     (small c.args.start.now.hour (hour_of (start_of r)) start.hour (omega (arith, start.hours))) in
     subst P listed c.listed_mask.ensures.mask

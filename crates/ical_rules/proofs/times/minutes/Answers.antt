@@ -15,10 +15,14 @@ listed_mask-requires-clause-values c =
     let r = c.args.rule.now in
     let start = c.requires.start in
     let P : List ℤ → Type 0 = λ values. All (IsPlain 60) values in
-    let listed = taken_list c.or_taken.result.now c.items.result.now r.by_minute c.may_give-is_taken.result (has_minutes r.freq) _ _ c.or_taken.ensures c.items.ensures c.may_give-is_taken.ensures
-    (small c.args.start.now.minute (minute_of (start_of r)) start.minute (omega (arith, start.minutes))) in
+    let listed = taken_list c.or_taken.result.now c.items.result.now r.by_minute
+    c.may_give-is_taken.result (has_minutes r.freq) _ _ c.or_taken.ensures c.items.ensures
+    c.may_give-is_taken.ensures
+    (small c.args.start.now.minute (minute_of (start_of r)) start.minute
+    (omega (arith, start.minutes))) in
     subst P (sym listed)
-    (taken_are (IsPlain 60) (has_minutes r.freq) (pos (minute_of (start_of r))) r.by_minute (omega (arith, ints), omega (arith, ints, start.minute, start.minutes))
+    (taken_are (IsPlain 60) (has_minutes r.freq) (pos (minute_of (start_of r))) r.by_minute
+    (omega (arith, ints), omega (arith, ints, start.minute, start.minutes))
     (minutes_are c.rule_laws.ensures.ical_values r c.requires.checked))
 
 pub returns : goal.returns
@@ -27,6 +31,9 @@ returns c =
     let r = c.args.rule.now in
     let start = c.requires.start in
     let P : List ℤ → Type 0 = λ values. IsMaskOf c.listed_mask.result 60 values in
-    let listed = taken_list c.or_taken.result.now c.items.result.now r.by_minute c.may_give-is_taken.result (has_minutes r.freq) _ _ c.or_taken.ensures c.items.ensures c.may_give-is_taken.ensures
-    (small c.args.start.now.minute (minute_of (start_of r)) start.minute (omega (arith, start.minutes))) in
+    let listed = taken_list c.or_taken.result.now c.items.result.now r.by_minute
+    c.may_give-is_taken.result (has_minutes r.freq) _ _ c.or_taken.ensures c.items.ensures
+    c.may_give-is_taken.ensures
+    (small c.args.start.now.minute (minute_of (start_of r)) start.minute
+    (omega (arith, start.minutes))) in
     subst P listed c.listed_mask.ensures.mask

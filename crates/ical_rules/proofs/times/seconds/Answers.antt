@@ -15,10 +15,14 @@ listed_mask-requires-clause-values c =
     let r = c.args.rule.now in
     let start = c.requires.start in
     let P : List ℤ → Type 0 = λ values. All (IsPlain 61) values in
-    let listed = taken_list c.or_taken.result.now c.items.result.now r.by_second c.may_give-is_taken.result (has_seconds r.freq) _ _ c.or_taken.ensures c.items.ensures c.may_give-is_taken.ensures
-    (small c.args.start.now.second (second_of (start_of r)) start.second (omega (arith, start.seconds))) in
+    let listed = taken_list c.or_taken.result.now c.items.result.now r.by_second
+    c.may_give-is_taken.result (has_seconds r.freq) _ _ c.or_taken.ensures c.items.ensures
+    c.may_give-is_taken.ensures
+    (small c.args.start.now.second (second_of (start_of r)) start.second
+    (omega (arith, start.seconds))) in
     subst P (sym listed)
-    (taken_are (IsPlain 61) (has_seconds r.freq) (pos (second_of (start_of r))) r.by_second (omega (arith, ints), omega (arith, ints, start.second, start.seconds))
+    (taken_are (IsPlain 61) (has_seconds r.freq) (pos (second_of (start_of r))) r.by_second
+    (omega (arith, ints), omega (arith, ints, start.second, start.seconds))
     (seconds_are c.rule_laws.ensures.ical_values r c.requires.checked))
 
 pub returns : goal.returns
@@ -27,7 +31,10 @@ returns c =
     let r = c.args.rule.now in
     let start = c.requires.start in
     let P : List ℤ → Type 0 = λ values. IsMaskOf c.listed_mask.result 61 values in
-    let listed = taken_list c.or_taken.result.now c.items.result.now r.by_second c.may_give-is_taken.result (has_seconds r.freq) _ _ c.or_taken.ensures c.items.ensures c.may_give-is_taken.ensures
-    (small c.args.start.now.second (second_of (start_of r)) start.second (omega (arith, start.seconds))) in
+    let listed = taken_list c.or_taken.result.now c.items.result.now r.by_second
+    c.may_give-is_taken.result (has_seconds r.freq) _ _ c.or_taken.ensures c.items.ensures
+    c.may_give-is_taken.ensures
+    (small c.args.start.now.second (second_of (start_of r)) start.second
+    (omega (arith, start.seconds))) in
     let mask = subst P listed c.listed_mask.ensures.mask in
     λ v below. mask v (omega arith)

@@ -57,5 +57,6 @@ opened-requires-clause-ends t c =
     c.join_framed-in-Pairs.ensures ∙ ap (λ o. join_framed o c.node_frame-in-Pairs-2.result)
     c.node_frame-in-Pairs.ensures.value
     ∙ ap (join_framed (frame_of_tree a)) c.node_frame-in-Pairs-2.ensures.value in
-    rw value (joined_below c.tree_frame_laws.ensures.period c.tree_frame_laws.ensures.moves a b law.0 law.1
+    rw value (joined_below c.tree_frame_laws.ensures.period c.tree_frame_laws.ensures.moves a b
+    law.0 law.1
     c.node_frame-in-Pairs.ensures.modest c.node_frame-in-Pairs-2.ensures.modest few near)

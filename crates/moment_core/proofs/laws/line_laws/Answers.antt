@@ -16,7 +16,12 @@ pub returns-clause-positions_have_moments : goal.returns-clause-positions_have_m
 returns-clause-positions_have_moments c = (moment-of-position, halves)
 
 pub returns-clause-ranges_have_no_gaps : goal.returns-clause-ranges_have_no_gaps
-returns-clause-ranges_have_no_gaps c = λ dir p k n le. (λ here there. calendar-between dir p k n here there le, λ here there. working-between dir p k n here there le)
+returns-clause-ranges_have_no_gaps c =
+    λ dir p k n le. (
+      λ here there. calendar-between dir p k n here there le,
+      λ here there.
+          working-between dir p k n here there le,
+    )
 
 pub returns-clause-next_changes_are_one : goal.returns-clause-next_changes_are_one
 returns-clause-next_changes_are_one c = one_change

@@ -5,13 +5,16 @@ use Rattle.moment_text.proofs.Shapes.{shaped_text, width_of, longest_front, shap
 use Rattle.moment_text.proofs.laws.literal_laws.Goals as goal
 
 pub returns-clause-shaped : goal.returns-clause-shaped
-returns-clause-shaped c = λ t absolute. rw (← text_of-parts_of t absolute) (shaped_text (parts_of t absolute))
+returns-clause-shaped c =
+    λ t absolute. rw (← text_of-parts_of t absolute) (shaped_text (parts_of t absolute))
 
 pub returns-clause-short : goal.returns-clause-short
-returns-clause-short c = λ t absolute. rw (← text_of-parts_of t absolute) (width_of (parts_of t absolute))
+returns-clause-short c =
+    λ t absolute. rw (← text_of-parts_of t absolute) (width_of (parts_of t absolute))
 
 pub returns-clause-apart : goal.returns-clause-apart
-returns-clause-apart c = moments_apart c.calendar_laws.ensures.times_name_moments c.calendar_laws.ensures.ranges_are_of_years
+returns-clause-apart c = moments_apart c.calendar_laws.ensures.times_name_moments
+    c.calendar_laws.ensures.ranges_are_of_years
 
 pub returns-clause-longest : goal.returns-clause-longest
 returns-clause-longest c = longest_front

@@ -5,4 +5,5 @@ use Rattle.moment_text.proofs.Moments.{text_of-parts_of}
 use Rattle.moment_text.proofs.writing.write_literal.Goals as goal
 
 pub returns : goal.returns
-returns c = c.text.ensures ∙ ap (λ (l : Literal). text_of l) c.of.ensures.parts ∙ text_of-parts_of c.args.stamp.moment.0 c.args.stamp.absolute
+returns c = c.text.ensures ∙ ap (λ (l : Literal). text_of l) c.of.ensures.parts
+    ∙ text_of-parts_of c.args.stamp.moment.0 c.args.stamp.absolute

@@ -37,13 +37,15 @@ budgets c = record {
 }
 
 pub returns-clause-exist : goal.returns-clause-exist
-returns-clause-exist c = replies_exist (reads c) c.neighbour_laws.ensures.exist c.endless_laws.ensures.for_ever (walks c)
+returns-clause-exist c = replies_exist (reads c) c.neighbour_laws.ensures.exist
+    c.endless_laws.ensures.for_ever (walks c)
 
 pub returns-clause-unique : goal.returns-clause-unique
 returns-clause-unique c = replies_are_unique (reads c) c.neighbour_laws.ensures.unique (walks c)
 
 pub returns-clause-alone : goal.returns-clause-alone
-returns-clause-alone c = refused_texts_have_one_reply (reads c) c.neighbour_laws.ensures.unique (walks c)
+returns-clause-alone c = refused_texts_have_one_reply (reads c) c.neighbour_laws.ensures.unique
+    (walks c)
 
 pub returns-clause-done : goal.returns-clause-done
 returns-clause-done c = replies_are_done

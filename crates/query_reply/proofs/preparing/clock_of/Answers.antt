@@ -14,12 +14,14 @@ pub returns-in-Some-clause-clock : goal.returns-in-Some-clause-clock
 returns-in-Some-clause-clock c =
     let p = c.args.program.now in
     let fits : takes c.args.query (trees_of_sorted p).second ≡ true = search rules in
-    let one : one_clock (sets_clock (sorts_of p)) (words_clock c.args.query) ≡ Some c.in-Some.clock = search rules in
+    let one : one_clock (sets_clock (sorts_of p)) (words_clock c.args.query)
+    ≡ Some c.in-Some.clock = search rules in
     taken c.args.query p (Ok c.in-Some.clock) fits (one_clock_of c.args.query p c.in-Some.clock one)
 
 pub returns-in-None-clause-clock : goal.returns-in-None-clause-clock
 returns-in-None-clause-clock c =
     let p = c.args.program.now in
     let fits : takes c.args.query (trees_of_sorted p).second ≡ true = search rules in
-    let none : one_clock (sets_clock (sorts_of p)) (words_clock c.args.query) ≡ None = search rules in
+    let none : one_clock (sets_clock (sorts_of p)) (words_clock c.args.query) ≡ None =
+    search rules in
     taken c.args.query p (Err refusals.Clock) fits (no_clock_of c.args.query p none)

@@ -19,25 +19,34 @@ returns-in-Ok c =
     rw c.in-Near.is (
       settled c.in-Ok.ensures.settled,
       λ o h.
-          subst (λ (t : Tree Meaning). IsAskedBy t c.in-Near.side c.args.program.first.sort.kind c.args.clock c.in-Near.at.moment.0 c.in-Near.budget o) c.in-Ok.ensures.meant h,
+          subst (λ (t : Tree Meaning). IsAskedBy t c.in-Near.side c.args.program.first.sort.kind
+          c.args.clock c.in-Near.at.moment.0 c.in-Near.budget o) c.in-Ok.ensures.meant h,
     )
 
 pub returns-in-Near : goal.returns-in-Near
 returns-in-Near c =
     let t = tree_of_set c.args.program.first in
-    rw (c.in-Near.is, c.why_unready.ensures) (no_plan (Near c.in-Near.side c.in-Near.at c.in-Near.budget) (on (reading_of c.args.program) c.args.clock) t c.in-Err.fault (λ u first. first) (c.settle_laws.ensures.working t) c.in-Err.ensures.fault)
+    rw (c.in-Near.is, c.why_unready.ensures)
+    (no_plan (Near c.in-Near.side c.in-Near.at c.in-Near.budget)
+    (on (reading_of c.args.program) c.args.clock) t c.in-Err.fault (λ u first. first)
+    (c.settle_laws.ensures.working t) c.in-Err.ensures.fault)
 
 pub returns-in-Walk : goal.returns-in-Walk
 returns-in-Walk c =
-    rw c.in-Walk.is (walk_is_report (entries_of c.args.book.now) (Walk c.in-Walk.from c.in-Walk.to c.in-Walk.dir c.in-Walk.limit c.in-Walk.budget)
-    (reading_of c.args.program) c.args.clock (window_token (window_given c.in-Walk.from c.in-Walk.to) c.in-Walk.dir) c.in-Walk.limit c.in-Walk.budget
+    rw c.in-Walk.is (walk_is_report (entries_of c.args.book.now)
+    (Walk c.in-Walk.from c.in-Walk.to c.in-Walk.dir c.in-Walk.limit c.in-Walk.budget)
+    (reading_of c.args.program) c.args.clock
+    (window_token (window_given c.in-Walk.from c.in-Walk.to) c.in-Walk.dir) c.in-Walk.limit
+    c.in-Walk.budget
     c.walk_over.result (λ are. are) (λ u first. first) (λ o is. is)
     (rw c.first_token-first.ensures.value at c.walk_over.ensures))
 
 pub returns-in-Resume : goal.returns-in-Resume
 returns-in-Resume c =
-    rw c.in-Resume.is (walk_is_report (entries_of c.args.book.now) (Resume c.in-Resume.token c.in-Resume.limit c.in-Resume.budget)
-    (reading_of c.args.program) c.args.clock c.in-Resume.token c.in-Resume.limit c.in-Resume.budget c.walk_over-in-Resume.result
+    rw c.in-Resume.is (walk_is_report (entries_of c.args.book.now)
+    (Resume c.in-Resume.token c.in-Resume.limit c.in-Resume.budget)
+    (reading_of c.args.program) c.args.clock c.in-Resume.token c.in-Resume.limit c.in-Resume.budget
+    c.walk_over-in-Resume.result
     (λ are. are) (λ u first. first) (λ o is. is) c.walk_over-in-Resume.ensures)
 
 pub returns : goal.returns
@@ -45,5 +54,6 @@ returns c =
     rw c.in-Show.is (
       settled tt,
       λ o h.
-          printed_as (trees_of_sorted c.args.program) c.in_ok-printed_line-in-Show.field-0.items o c.in_ok-printed_line-in-Show.ensures h,
+          printed_as (trees_of_sorted c.args.program) c.in_ok-printed_line-in-Show.field-0.items o
+          c.in_ok-printed_line-in-Show.ensures h,
     )

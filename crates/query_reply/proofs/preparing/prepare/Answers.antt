@@ -7,10 +7,15 @@ use Rattle.query_reply.proofs.preparing.prepare.Goals as goal
 pub returns-in_err-program : goal.returns-in_err-program
 returns-in_err-program c =
     let is : c.from_residual.result ≡ Err c.in_err-program.field-0.0 = search rules in
-    rw is (not_meant (entries_of c.args.book.now) c.args.query c.args.text.now c.in_err-program.field-0.0 c.in_err-program.ensures.meant)
+    rw is (not_meant (entries_of c.args.book.now) c.args.query c.args.text.now
+    c.in_err-program.field-0.0 c.in_err-program.ensures.meant)
 
 pub returns-in-Ok : goal.returns-in-Ok
-returns-in-Ok c = replies (entries_of c.args.book.now) c.args.query c.args.text.now (reading_of c.in_ok-program.program) c.in-Ok.clock c.make_report.result c.in_ok-program.ensures.meant c.in-Ok.ensures.clock c.make_report.ensures
+returns-in-Ok c = replies (entries_of c.args.book.now) c.args.query c.args.text.now
+    (reading_of c.in_ok-program.program) c.in-Ok.clock c.make_report.result
+    c.in_ok-program.ensures.meant c.in-Ok.ensures.clock c.make_report.ensures
 
 pub returns : goal.returns
-returns c = not_fitting (entries_of c.args.book.now) c.args.query c.args.text.now (reading_of c.in_ok-program.program) c.in-Err.refusal c.in-Err.ensures.printable c.in_ok-program.ensures.meant c.in-Err.ensures.clock
+returns c = not_fitting (entries_of c.args.book.now) c.args.query c.args.text.now
+    (reading_of c.in_ok-program.program) c.in-Err.refusal c.in-Err.ensures.printable
+    c.in_ok-program.ensures.meant c.in-Err.ensures.clock

@@ -13,10 +13,12 @@ pub returns-in-Ok : goal.returns-in-Ok
 returns-in-Ok c = (
   c.in-Ok.ensures.settled,
   λ o h.
-      subst (λ (t : Tree Meaning). IsWalkOf t c.args.program.now.first.sort.kind c.args.clock c.args.from c.args.limit c.args.budget o) c.in-Ok.ensures.meant h,
+      subst (λ (t : Tree Meaning). IsWalkOf t c.args.program.now.first.sort.kind c.args.clock
+      c.args.from c.args.limit c.args.budget o) c.in-Ok.ensures.meant h,
 )
 
 pub returns-in-Err : goal.returns-in-Err
 returns-in-Err c =
     let t = tree_of_set c.args.program.now.first in
-    rw c.why_unready.ensures (no_walk t c.in-Err.fault (c.settle_laws.ensures.working t) c.in-Err.ensures.fault)
+    rw c.why_unready.ensures (no_walk t c.in-Err.fault (c.settle_laws.ensures.working t)
+    c.in-Err.ensures.fault)

@@ -20,8 +20,11 @@ returns-in-Next-clause-outcome g c =
     record {
       outcome = told s.kind s.clock near;
       as_asked =
-          rw c.in-Next.is (searched_by (IsNextRun (is_member t) (window_of t) Fore at) (IsForEver (is_member t) Fore (position_of at)) (PlacesOfNext (is_member t) Fore at) (IsDue t)
-          s.kind s.clock s.budget near c.next-near.ensures.answer c.next-near.ensures.for_ever c.next-near.ensures.complete);
+          rw c.in-Next.is (searched_by (IsNextRun (is_member t) (window_of t) Fore at)
+          (IsForEver (is_member t) Fore (position_of at)) (PlacesOfNext (is_member t) Fore at)
+          (IsDue t)
+          s.kind s.clock s.budget near c.next-near.ensures.answer c.next-near.ensures.for_ever
+          c.next-near.ensures.complete);
       written = c.write_near.ensures;
     }
 
@@ -34,8 +37,11 @@ returns-in-Previous-clause-outcome g c =
     record {
       outcome = told s.kind s.clock near;
       as_asked =
-          rw c.in-Previous.is (searched_by (IsNextRun (is_member t) (window_of t) Back at) (IsForEver (is_member t) Back (position_of at)) (PlacesOfNext (is_member t) Back at) (IsDue t)
-          s.kind s.clock s.budget near c.previous-near.ensures.answer c.previous-near.ensures.for_ever c.previous-near.ensures.complete);
+          rw c.in-Previous.is (searched_by (IsNextRun (is_member t) (window_of t) Back at)
+          (IsForEver (is_member t) Back (position_of at)) (PlacesOfNext (is_member t) Back at)
+          (IsDue t)
+          s.kind s.clock s.budget near c.previous-near.ensures.answer
+          c.previous-near.ensures.for_ever c.previous-near.ensures.complete);
       written = c.write_near-in-Previous.ensures;
     }
 
@@ -48,8 +54,10 @@ returns-in-Current-clause-outcome g c =
     record {
       outcome = told s.kind s.clock near;
       as_asked =
-          rw c.in-Current.is (searched_by (IsCurrentRun (is_member t) (window_of t) at) (IsForEverCurrent (is_member t) at) (PlacesOfCurrent (is_member t) at) (IsDue t)
-          s.kind s.clock s.budget near c.current-near.ensures.answer c.current-near.ensures.for_ever c.current-near.ensures.complete);
+          rw c.in-Current.is (searched_by (IsCurrentRun (is_member t) (window_of t) at)
+          (IsForEverCurrent (is_member t) at) (PlacesOfCurrent (is_member t) at) (IsDue t)
+          s.kind s.clock s.budget near c.current-near.ensures.answer c.current-near.ensures.for_ever
+          c.current-near.ensures.complete);
       written = c.write_near-in-Current.ensures;
     }
 
@@ -62,8 +70,10 @@ returns-in-Closest-clause-outcome g c =
     record {
       outcome = told s.kind s.clock near;
       as_asked =
-          rw c.in-Closest.is (searched_by (IsClosestRun (is_member t) (window_of t) at) (IsForEverClosest (is_member t) at) (PlacesOfClosest (is_member t) at) (IsDue t)
-          s.kind s.clock s.budget near c.closest-near.ensures.answer c.closest-near.ensures.for_ever c.closest-near.ensures.complete);
+          rw c.in-Closest.is (searched_by (IsClosestRun (is_member t) (window_of t) at)
+          (IsForEverClosest (is_member t) at) (PlacesOfClosest (is_member t) at) (IsDue t)
+          s.kind s.clock s.budget near c.closest-near.ensures.answer c.closest-near.ensures.for_ever
+          c.closest-near.ensures.complete);
       written = c.write_near-in-Closest.ensures;
     }
 
@@ -77,5 +87,6 @@ returns-in-Contains-clause-outcome g c =
     record {
       outcome = o;
       as_asked = rw c.in-Contains.is (tested test c.contains-test.ensures.value);
-      written = written_as o c.status_of_test.result c.bytes.result.now c.status_of_test.ensures.value line c.put.ensures;
+      written = written_as o c.status_of_test.result c.bytes.result.now
+          c.status_of_test.ensures.value line c.put.ensures;
     }

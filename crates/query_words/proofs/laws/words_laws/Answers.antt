@@ -6,4 +6,5 @@ pub returns-clause-exist : goal.returns-clause-exist
 returns-clause-exist c = words_are_read c.literal_laws.ensures.apart c.token_laws.ensures.apart
 
 pub returns-clause-unique : goal.returns-clause-unique
-returns-clause-unique c = words_are_read_once c.literal_laws.ensures.apart c.token_laws.ensures.apart
+returns-clause-unique c = words_are_read_once c.literal_laws.ensures.apart
+    c.token_laws.ensures.apart

@@ -11,10 +11,14 @@ returns-in_default c =
     let words = map string_bytes c.args.later.now in
     let s = c.in_ok-settings.settings in
     let empty : stamp_in (value_at s At) ≡ None = search rules in
-    near_lacks_at c.args.side words s (length c.args.later.now) (rw c.command.ensures.value at c.in_ok-settings.ensures.0) c.in_ok-settings.ensures.1 empty (sym (length-map c.args.later.now string_bytes))
+    near_lacks_at c.args.side words s (length c.args.later.now)
+    (rw c.command.ensures.value at c.in_ok-settings.ensures.0) c.in_ok-settings.ensures.1 empty
+    (sym (length-map c.args.later.now string_bytes))
 
 pub returns : goal.returns
 returns c =
     let words = map string_bytes c.args.later.now in
     let s = c.in_ok-settings.settings in
-    rw c.budget.ensures (near_asks c.args.side words s c.in-Some.at (rw c.command.ensures.value at c.in_ok-settings.ensures.0) c.in_ok-settings.ensures.1 (search rules))
+    rw c.budget.ensures (near_asks c.args.side words s c.in-Some.at
+    (rw c.command.ensures.value at c.in_ok-settings.ensures.0) c.in_ok-settings.ensures.1
+    (search rules))

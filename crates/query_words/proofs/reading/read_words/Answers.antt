@@ -13,7 +13,9 @@ pub returns-in_default-named : goal.returns-in_default-named
 returns-in_default-named c =
     let later = map string_bytes c.in-Some.later.now in
     let parts : c.args.words.now ≡ c.in-Some.first.now ∷ c.in-Some.later.now = search rules in
-    no_name (map string_bytes c.args.words.now) later c.as_str.result.now (ap (map string_bytes) parts ∙ ap (λ f. f ∷ later) (sym c.as_str.ensures.value)) c.in_default-named.ensures.none
+    no_name (map string_bytes c.args.words.now) later c.as_str.result.now
+    (ap (map string_bytes) parts ∙ ap (λ f. f ∷ later) (sym c.as_str.ensures.value))
+    c.in_default-named.ensures.none
 
 pub returns-in_default-command : goal.returns-in_default-command
 returns-in_default-command c =
@@ -24,5 +26,6 @@ returns-in_default-command c =
     let resume : c.in-Some-named.command ≢ Resume = search rules in
     let show : c.in-Some-named.command ≢ Show = search rules in
     unbuilt c.in-Some-named.command later
-    (ap (map string_bytes) parts ∙ ap (λ f. f ∷ later) (sym c.as_str.ensures.value ∙ c.in-Some-named.ensures.some))
+    (ap (map string_bytes) parts ∙ ap (λ f. f ∷ later) (sym c.as_str.ensures.value
+    ∙ c.in-Some-named.ensures.some))
     (not_built c.in-Some-named.command none walk resume show)

@@ -10,7 +10,8 @@ pub returns-in_err-piece : goal.returns-in_err-piece
 unfolding value_of
 returns-in_err-piece c =
     let found = find_from_yields_List (is_of c.args.part) _ _ c.find.result c.find.ensures.ran
-    (YieldsList-from_slice_split _ (λ b. b == 59) c.args.body.now c.split.ensures.rest c.split.ensures.done c.split.ensures.closure (λ x b q k. search (rules, tests)))
+    (YieldsList-from_slice_split _ (λ b. b == 59) c.args.body.now c.split.ensures.rest
+    c.split.ensures.done c.split.ensures.closure (λ x b q k. search (rules, tests)))
     (λ x b q k. search (rules, tests)) in
     let none = rw c.in_err-piece.was at found in
     rw (c.from_residual.ensures, ← none) refl
@@ -19,7 +20,8 @@ pub returns : goal.returns
 unfolding value_of
 returns c =
     let found = find_from_yields_List (is_of c.args.part) _ _ c.find.result c.find.ensures.ran
-    (YieldsList-from_slice_split _ (λ b. b == 59) c.args.body.now c.split.ensures.rest c.split.ensures.done c.split.ensures.closure (λ x b q k. search (rules, tests)))
+    (YieldsList-from_slice_split _ (λ b. b == 59) c.args.body.now c.split.ensures.rest
+    c.split.ensures.done c.split.ensures.closure (λ x b q k. search (rules, tests)))
     (λ x b q k. search (rules, tests)) in
     let some = rw c.in_ok-piece.was at found in
     rw (c.value_in.ensures, ← some) refl

@@ -7,8 +7,10 @@ use Rattle.rrule_text.proofs.writing.write_rrule.Goals as goal
 pub written-requires : goal.written-requires
 unfolding is_bad_part
 written-requires c =
-    until_fine c.args.rule.now.until (c.rule_laws.ensures.ical_values c.args.rule.now parts.Until c.requires.checked)
+    until_fine c.args.rule.now.until (c.rule_laws.ensures.ical_values c.args.rule.now parts.Until
+    c.requires.checked)
 
 pub returns-clause-back : goal.returns-clause-back
 returns-clause-back c =
-    back_if_written c.text_laws.ensures.back c.args.rule.now c.requires (λ text. text.items) c.written.result c.written.ensures.form c.written.ensures.weekdays
+    back_if_written c.text_laws.ensures.back c.args.rule.now c.requires (λ text. text.items)
+    c.written.result c.written.ensures.form c.written.ensures.weekdays

@@ -6,4 +6,5 @@ pub returns-clause-set : goal.returns-clause-set
 returns-clause-set c = down-set c.args.mask c.args.from _ refl c.requires
 
 pub returns-clause-none_before : goal.returns-clause-none_before
-returns-clause-none_before c = λ k before within. down-clear c.args.mask c.args.from _ k refl c.requires before within
+returns-clause-none_before c =
+    λ k before within. down-clear c.args.mask c.args.from _ k refl c.requires before within

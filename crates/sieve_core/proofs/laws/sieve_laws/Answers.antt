@@ -5,7 +5,8 @@ use Rattle.sieve_core.proofs.RuleLemmas.{candidate-between, has_between, member_
 use Rattle.sieve_core.proofs.laws.sieve_laws.Goals as goal
 
 pub returns-clause-repeats : goal.returns-clause-repeats
-returns-clause-repeats c s t m j is weekday round = meets_rule-cycles s t m j weekday is.interval round
+returns-clause-repeats c s t m j is weekday round = meets_rule-cycles s t m j weekday is.interval
+    round
 
 pub returns-clause-members : goal.returns-clause-members
 returns-clause-members c = member_is_candidate

@@ -13,6 +13,16 @@ loop-i-preserved c =
     let f = turned_bit c.args.dir c.args.mask c.args.len in
     let bit = ap (has_bit (c.args.mask ∷ [])) (sym c.turn.ensures) ∙ sym c.has_bit.ensures in
     elim c.if-has_bit.branch [
-      | then-has_bit w ↦ (w.count-is ∙ ap (λ n. n + 1) c.loop-i.invariant.0 ∙ sym (count-met f c.loop-i.i (bit ∙ w.if-has_bit.true)), omega (arith, w.count-is, c.loop-i.invariant.1))
-      | else-has_bit w ↦ (w.count-is ∙ c.loop-i.invariant.0 ∙ sym (count-unmet f c.loop-i.i (bit ∙ w.if-has_bit.false)), omega (arith, w.count-is, c.loop-i.invariant.1))
+      | then-has_bit w ↦ (
+        w.count-is ∙ ap (λ n. n + 1) c.loop-i.invariant.0
+            ∙ sym (count-met f c.loop-i.i (bit ∙ w.if-has_bit.true)),
+        omega
+            (arith, w.count-is, c.loop-i.invariant.1),
+      )
+      | else-has_bit w ↦ (
+        w.count-is ∙ c.loop-i.invariant.0
+            ∙ sym (count-unmet f c.loop-i.i (bit ∙ w.if-has_bit.false)),
+        omega
+            (arith, w.count-is, c.loop-i.invariant.1),
+      )
     ]

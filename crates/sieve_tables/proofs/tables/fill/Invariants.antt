@@ -3,4 +3,5 @@ use Rattle.sieve_tables.proofs.Filled.{IsFilled}
 use Rattle.sieve_tables.proofs.tables.fill.Given as goal
 
 abbrev pub invariant-loop-v : goal.invariant-loop-v
-invariant-loop-v l = IsFilled l.words (32 * length l.fn.words) (take l.v-index l.values) × (length l.words ≡ length l.fn.words)
+invariant-loop-v l = IsFilled l.words (32 * length l.fn.words) (take l.v-index l.values)
+    × (length l.words ≡ length l.fn.words)

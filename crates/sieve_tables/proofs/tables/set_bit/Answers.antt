@@ -6,4 +6,5 @@ pub returns-clause-bits : goal.returns-clause-bits
 returns-clause-bits c = λ j. c.sieve_laws.ensures.set c.args.words.now c.args.i j c.requires
 
 pub returns-clause-nonzero : goal.returns-clause-nonzero
-returns-clause-nonzero c = not_zero _ c.args.i (bit_set_here c.sieve_laws.ensures.set c.args.words.now c.args.i c.requires)
+returns-clause-nonzero c =
+    not_zero _ c.args.i (bit_set_here c.sieve_laws.ensures.set c.args.words.now c.args.i c.requires)

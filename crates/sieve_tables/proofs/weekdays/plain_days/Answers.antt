@@ -6,5 +6,7 @@ loop-item-init c = no_days
 
 pub loop-item-preserved : goal.loop-item-preserved
 loop-item-preserved c =
-    day_mask_more _ _ _ _ c.item-item.result c.loop-item-test.true c.item-item.is c.loop-item.invariant
-    c.with_day-mask.ensures.bits c.with_day-mask.ensures.below c.with_day-mask.ensures.none c.with_day-mask.ensures.weekday
+    day_mask_more _ _ _ _ c.item-item.result c.loop-item-test.true c.item-item.is
+    c.loop-item.invariant
+    c.with_day-mask.ensures.bits c.with_day-mask.ensures.below c.with_day-mask.ensures.none
+    c.with_day-mask.ensures.weekday

@@ -6,4 +6,5 @@ use Rattle.token_text.proofs.reading.parts.Goals as goal
 
 pub returns-in_err-text_in : goal.returns-in_err-text_in
 returns-in_err-text_in c = λ t fit is.
-    absurd (c.in_err-text_in.ensures.none (IsUtf8-from_ascii c.args.text.now (subst IsAscii (sym is) (token_ascii t fit))))
+    absurd (c.in_err-text_in.ensures.none
+    (IsUtf8-from_ascii c.args.text.now (subst IsAscii (sym is) (token_ascii t fit))))

@@ -10,26 +10,34 @@ use Rattle.walk_core.proofs.steps.go_on.Goals as goal
 
 pub returns-in-Ok-clause-answer : goal.returns-in-Ok-clause-answer
 returns-in-Ok-clause-answer g c =
-    let P : Tree Meaning → Type 0 = λ t. c.given.result.found ≡ founds.Given (item_from (window_of t) c.args.t.dir c.args.first.0 c.in-Ok.last.0) in
-    open_given (meant_of_plan c.args.plan.now) c.args.budget c.args.t c.given.result.found c.given.result.next c.args.first c.in-Ok.last.0
-    c.requires.begun c.requires.fit c.in-Ok.ensures.last (subst P c.last_of_open.ensures.same c.given.ensures.found) c.given.ensures.next
+    let P : Tree Meaning → Type 0 =
+    λ t. c.given.result.found ≡ founds.Given (item_from (window_of t) c.args.t.dir c.args.first.0
+    c.in-Ok.last.0) in
+    open_given (meant_of_plan c.args.plan.now) c.args.budget c.args.t c.given.result.found
+    c.given.result.next c.args.first c.in-Ok.last.0
+    c.requires.begun c.requires.fit c.in-Ok.ensures.last
+    (subst P c.last_of_open.ensures.same c.given.ensures.found) c.given.ensures.next
 
 pub returns-in-Err-clause-answer : goal.returns-in-Err-clause-answer
 returns-in-Err-clause-answer g c =
-    open_stopped (meant_of_plan c.args.plan.now) c.args.budget c.args.t c.stopped.result.found c.stopped.result.next c.args.first c.in-Err.stop
+    open_stopped (meant_of_plan c.args.plan.now) c.args.budget c.args.t c.stopped.result.found
+    c.stopped.result.next c.args.first c.in-Err.stop
     c.requires.begun c.in-Err.ensures.stop c.stopped.ensures.found c.stopped.ensures.next
 
 pub returns-in-Err-clause-fit : goal.returns-in-Err-clause-fit
 returns-in-Err-clause-fit g c =
-    fit_open_stop (meant_of_plan c.args.plan.now) c.args.budget c.args.t c.stopped.result.found c.stopped.result.next c.args.first c.in-Err.stop
+    fit_open_stop (meant_of_plan c.args.plan.now) c.args.budget c.args.t c.stopped.result.found
+    c.stopped.result.next c.args.first c.in-Err.stop
     c.requires.begun c.requires.fit c.in-Err.ensures.stop c.stopped.ensures.next
 
 pub returns-in-Ok-clause-honest : goal.returns-in-Ok-clause-honest
 returns-in-Ok-clause-honest g c honest =
-    honest_past (meant_of_plan c.args.plan.now) c.args.budget c.args.t c.given.result.found c.given.result.next (ahead c.args.t.dir c.in-Ok.last.0 1)
+    honest_past (meant_of_plan c.args.plan.now) c.args.budget c.args.t c.given.result.found
+    c.given.result.next (ahead c.args.t.dir c.in-Ok.last.0 1)
     c.given.ensures.next
 
 pub returns-in-Err-clause-honest : goal.returns-in-Err-clause-honest
 returns-in-Err-clause-honest g c honest =
-    honest_open (meant_of_plan c.args.plan.now) c.args.budget c.args.t c.stopped.result.found c.stopped.result.next c.args.first c.in-Err.stop
+    honest_open (meant_of_plan c.args.plan.now) c.args.budget c.args.t c.stopped.result.found
+    c.stopped.result.next c.args.first c.in-Err.stop
     c.requires.begun c.in-Err.ensures.stop c.stopped.ensures.next honest

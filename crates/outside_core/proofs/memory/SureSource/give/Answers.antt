@@ -10,7 +10,10 @@ whole : (xs : List ℕ) (at : ℕ) → take (length xs - at) (drop at xs) ≡ dr
 whole xs at = grind (arith, common_steps)
 
 -- the first n bytes from `at` on, copied to the front of a buffer, and those behind them
-given : (xs read copied behind : List ℕ) (at n room : ℕ) → read ≡ xs → n ≡ min (length (take (length read - at) (drop at read))) room → copied ≡ take n (take (length read - at) (drop at read)) → drop at xs ≡ take n (copied ++ behind) ++ drop (at + n) xs
+given : (xs read copied behind : List ℕ) (at n room : ℕ) → read ≡ xs → n
+    ≡ min (length (take (length read - at) (drop at read))) room → copied
+    ≡ take n (take (length read - at) (drop at read)) → drop at xs ≡ take n (copied ++ behind)
+    ++ drop (at + n) xs
 given xs read copied behind at n room same count copy =
     let from_read : copied ≡ take n (drop at read) = copy ∙ ap (take n) (whole read at) in
     let size : length copied ≡ n = ap length copy ∙ grind (arith, common_steps) in
@@ -20,4 +23,5 @@ given xs read copied behind at n room same count copy =
     ∙ ap (λ z. z ++ drop (at + n) xs) (sym (front copied behind n size ∙ from_all))
 
 pub returns-clause-bytes : goal.returns-clause-bytes
-returns-clause-bytes c = sym c.self.view_is ∙ given _ _ _ _ _ _ _ c.deref.ensures.value c.min-n.ensures c.copy_from_slice.ensures.after
+returns-clause-bytes c = sym c.self.view_is ∙ given _ _ _ _ _ _ _ c.deref.ensures.value
+    c.min-n.ensures c.copy_from_slice.ensures.after

@@ -5,12 +5,15 @@ use Rattle.std.specs.Io.KnownBytes.{Appends}
 use Rattle.outside_core.proofs.standard.StdSinkSink.write.Goals as goal
 
 -- the first n bytes of a piece, and then more of the rest
-Appends-more : (a b c : Option (List ℕ)) (piece : List ℕ) (n more : ℕ) → Appends a b (take n piece) → Appends b c (take more (take (length piece - n) (drop n piece))) → Appends a c (take (n + more) piece)
+Appends-more : (a b c : Option (List ℕ)) (piece : List ℕ) (n more : ℕ) → Appends a b (take n piece)
+    → Appends b c (take more (take (length piece - n) (drop n piece)))
+    → Appends a c (take (n + more) piece)
 Appends-more None b c piece n more first second = tt
 Appends-more (Some a) None c piece n more first second = absurd first
 Appends-more (Some a) (Some b) None piece n more first second = absurd second
 Appends-more (Some a) (Some b) (Some c) piece n more first second =
-    let rest : take (length piece - n) (drop n piece) ≡ drop n piece = grind (arith, common_steps) in
+    let rest : take (length piece - n) (drop n piece) ≡ drop n piece =
+    grind (arith, common_steps) in
     second
     ∙ ap (λ z. z ++ take more (take (length piece - n) (drop n piece))) first
     ∙ append_assoc a (take n piece) (take more (take (length piece - n) (drop n piece)))
@@ -20,6 +23,7 @@ Appends-more (Some a) (Some b) (Some c) piece n more first second =
 pub loop-done-preserved : goal.loop-done-preserved
 loop-done-preserved g c = record {
   within = grind (arith, common_steps, c.in-Some.ensures.some.1);
-  taken = Appends-more _ _ _ c.args.piece.now c.loop-done.done c.in-Some.n c.loop-done.invariant.taken c.in-Some.ensures.some.2;
+  taken = Appends-more _ _ _ c.args.piece.now c.loop-done.done c.in-Some.n
+      c.loop-done.invariant.taken c.in-Some.ensures.some.2;
   no_fault = c.loop-done.invariant.no_fault;
 }

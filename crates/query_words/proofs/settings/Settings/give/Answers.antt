@@ -13,16 +13,20 @@ pub returns-then-is_some-clause-unfit : goal.returns-then-is_some-clause-unfit
 returns-then-is_some-clause-unfit c = λ e before h x.
     let old = value_at c.args.self.now c.args.key in
     let some : is_some old ≡ true = search rules in
-    told_some before c.args.key (IsValue c.args.key) old (some_not_none old some) (h.each c.args.key) x.0
+    told_some before c.args.key (IsValue c.args.key) old (some_not_none old some)
+    (h.each c.args.key) x.0
 
 pub returns-clause-fits : goal.returns-clause-fits
 returns-clause-fits c = λ e before h.
     let old = value_at c.args.self.now c.args.key in
     let none : is_some old ≡ false = search rules in
     let agrees = c.agrees.ensures.fits (search rules) before h in
-    rw c.place_of.ensures.value (put_holds before c.args.self.now c.args.key c.args.value.now c.in-Some.read h (none_if_not_some old none) c.in-Some.ensures.some agrees)
+    rw c.place_of.ensures.value (put_holds before c.args.self.now c.args.key c.args.value.now
+    c.in-Some.read h (none_if_not_some old none) c.in-Some.ensures.some agrees)
 
 pub returns-then-not-agrees-clause-unfit : goal.returns-then-not-agrees-clause-unfit
 returns-then-not-agrees-clause-unfit c = λ e before h x.
-    let same = one_meaning c.literal_laws.ensures.apart c.token_laws.ensures.apart c.args.key c.args.value.now x.1.value c.in-Some.read x.1.is c.in-Some.ensures.some in
-    c.agrees.ensures.unfit c.if-not-agrees.true before h (subst (Agrees before c.args.key) same x.1.agrees)
+    let same = one_meaning c.literal_laws.ensures.apart c.token_laws.ensures.apart c.args.key
+    c.args.value.now x.1.value c.in-Some.read x.1.is c.in-Some.ensures.some in
+    c.agrees.ensures.unfit c.if-not-agrees.true before h
+    (subst (Agrees before c.args.key) same x.1.agrees)

@@ -22,5 +22,6 @@ returns-then-takes-clause-fits c = λ t before h.
 pub returns-then-takes-clause-unfit : goal.returns-then-takes-clause-unfit
 returns-then-takes-clause-unfit c = λ e before h fits.
     let is : c.args.word.now ≡ word_of c.in-Some.key c.in-Some.value.now = search rules in
-    let own = fits_by c.args.command before c.args.word.now c.in-Some.key c.in-Some.value.now is fits in
+    let own = fits_by c.args.command before c.args.word.now c.in-Some.key c.in-Some.value.now is
+    fits in
     c.give.ensures.unfit e before h (own.1, own.2)

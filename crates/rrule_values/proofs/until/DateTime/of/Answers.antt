@@ -9,8 +9,11 @@ use Rattle.rrule_values.proofs.until.DateTime.of.Goals as goal
 pub year_past-requires : goal.year_past-requires
 year_past-requires c =
     let early = is_earlier c.args.t.0 c.cycle_before.result.0 c.cycle_before.ensures.value in
-    let years = year_within c.args.t.0 (c.rule_laws.ensures.until c.args.t c.requires) in
-    (omega (arith, ints, c.fields-parts.ensures.year, early.year, years.0), omega (arith, ints, c.fields-parts.ensures.year, early.year, years.1))
+    let years = year_within c.args.t.0 (c.rule_laws.ensures.until c.args.t c.requires) in (
+      omega (arith, ints, c.fields-parts.ensures.year, early.year, years.0),
+      omega
+          (arith, ints, c.fields-parts.ensures.year, early.year, years.1),
+    )
 
 pub invariant_of-result : goal.invariant_of-result
 invariant_of-result c =
@@ -21,13 +24,19 @@ invariant_of-result c =
     record {
       four_digits = omega (arith, ints, c.year_past.ensures, parts.year, early.year, years.1);
       date_digits = (omega (arith, parts.months.1), omega (arith, parts.day, bounds.3));
-      time_digits = (omega (arith, parts.times.0.1), omega (arith, parts.times.1.1), omega (arith, parts.times.2.1));
+      time_digits = (
+        omega (arith, parts.times.0.1),
+        omega (arith, parts.times.1.1),
+        omega
+            (arith, parts.times.2.1),
+      );
     }
 
 pub returns-clause-year : goal.returns-clause-year
 returns-clause-year c =
     let early = is_earlier c.args.t.0 c.cycle_before.result.0 c.cycle_before.ensures.value in
-    abs_is c.year_past.result (year_of (day_of c.args.t.0)) (omega (arith, ints, c.year_past.ensures, c.fields-parts.ensures.year, early.year))
+    abs_is c.year_past.result (year_of (day_of c.args.t.0))
+    (omega (arith, ints, c.year_past.ensures, c.fields-parts.ensures.year, early.year))
 
 pub returns-clause-month : goal.returns-clause-month
 returns-clause-month c =

@@ -9,5 +9,8 @@ unfolding meets_rank
 returns c =
     let s = c.args.self.now in
     let len : length s.rank.0 ≡ 12 = search rules in
-    c.is_in_signed.ensures ∙ ranks-capped s.rank.0 _ _ (rank_of s Back c.args.t.0) (rank_of s Fore c.args.t.0) c.rank-from_first.result c.rank-from_last.result len c.bits_below.ensures.clear c.bits_below-2.ensures.clear c.rank-from_first.ensures c.rank-from_last.ensures
+    c.is_in_signed.ensures ∙ ranks-capped s.rank.0 _ _ (rank_of s Back c.args.t.0)
+    (rank_of s Fore c.args.t.0) c.rank-from_first.result c.rank-from_last.result len
+    c.bits_below.ensures.clear c.bits_below-2.ensures.clear c.rank-from_first.ensures
+    c.rank-from_last.ensures
     ∙ rw (sym c.is_zero.ensures ∙ c.if-is_zero.false) refl

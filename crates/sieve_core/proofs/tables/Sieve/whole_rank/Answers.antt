@@ -3,4 +3,5 @@ use Rattle.sieve_core.proofs.KnownLemmas.{rank-whole}
 use Rattle.sieve_core.proofs.tables.Sieve.whole_rank.Goals as goal
 
 pub returns : goal.returns
-returns c = rank-whole c.args.self.now c.args.dir c.args.t.0 32_659_201 c.rank.result (omega arith) c.rank.ensures
+returns c = rank-whole c.args.self.now c.args.dir c.args.t.0 32_659_201 c.rank.result (omega arith)
+    c.rank.ensures

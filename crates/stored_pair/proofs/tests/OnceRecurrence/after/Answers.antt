@@ -7,5 +7,8 @@ use Rattle.stored_pair.proofs.tests.OnceRecurrence.after.Goals as goal
 pub returns-then-t-self-clause-next : goal.returns-then-t-self-clause-next
 returns-then-t-self-clause-next c =
     let t = c.args.t.0 in
-    let u = c.args.self.now.moment.0 in
-    (next-once Fore t u (unsigned_abs (u -ℤ t)) c.args.self.now.working (omega (arith, ints, c.if-t-self.true)) (omega (arith, ints, c.if-t-self.true)), itself u)
+    let u = c.args.self.now.moment.0 in (
+      next-once Fore t u (unsigned_abs (u -ℤ t)) c.args.self.now.working
+          (omega (arith, ints, c.if-t-self.true)) (omega (arith, ints, c.if-t-self.true)),
+      itself u,
+    )

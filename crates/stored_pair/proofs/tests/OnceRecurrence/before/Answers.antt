@@ -7,5 +7,8 @@ use Rattle.stored_pair.proofs.tests.OnceRecurrence.before.Goals as goal
 pub returns-then-self-t-clause-next : goal.returns-then-self-t-clause-next
 returns-then-self-t-clause-next c =
     let t = c.args.t.0 in
-    let u = c.args.self.now.moment.0 in
-    (next-once Back t u (unsigned_abs (t -ℤ u)) c.args.self.now.working (omega (arith, ints, c.if-self-t.true)) (omega (arith, ints, c.if-self-t.true)), itself u)
+    let u = c.args.self.now.moment.0 in (
+      next-once Back t u (unsigned_abs (t -ℤ u)) c.args.self.now.working
+          (omega (arith, ints, c.if-self-t.true)) (omega (arith, ints, c.if-self-t.true)),
+      itself u,
+    )
