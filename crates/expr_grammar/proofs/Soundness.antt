@@ -279,7 +279,11 @@ high_only ts t rest e =
       high = Some h.bound;
       is = h.is;
       taken =
-          record { front = h.front; whole = h.whole; spelled = high_bound h.bound h.front h.spelled };
+          record {
+            front = h.front;
+            whole = h.whole;
+            spelled = high_bound h.bound h.front h.spelled;
+          };
     }
 
 span_sound : (ts : List Token) (t : Form) (rest : List Token) → span_at ts ≡ Some (t, rest)
@@ -292,7 +296,11 @@ span_sound (tokens.Close ∷ ts) t rest e =
       high = None;
       is = q.0;
       taken =
-          record { front = []; whole = ap (λ (y : List Token). tokens.Close ∷ y) q.1; spelled = no_bound };
+          record {
+            front = [];
+            whole = ap (λ (y : List Token). tokens.Close ∷ y) q.1;
+            spelled = no_bound;
+          };
     }
 span_sound (tokens.Word words.Start ∷ tokens.Moment m ∷ ts) t rest e =
     low_end_sound (record { closed = true; stamp = m }) (tokens.Word words.Start ∷ tokens.Moment m ∷

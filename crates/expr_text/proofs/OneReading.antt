@@ -184,7 +184,8 @@ module _ (one_program : SpellOne) (decided : SpellOrNot) (kept : MomentsAreKept)
     where
       some : (s : Spelling) → IsNamed s → (r : Result Forms Fault) × HasPositions s r
       some s h =
-          elim (held_or_vacant begins stops (all_spans_of s.forms) (span_places s.tokens) h.placed) [
+          let spans = all_spans_of s.forms in
+          elim (held_or_vacant begins stops spans (span_places s.tokens) h.placed) [
             | inl all ↦ (Ok s.forms, held all)
             | inr f ↦ (Err (faults.Moment f.0), vacant f.0 f.1)
           ]

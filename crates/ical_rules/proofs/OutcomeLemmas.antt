@@ -212,8 +212,8 @@ goes_on skips has cand start count budget are some (suc fuel) at passed members 
     elim (next_or_none cand at way.working) [
       | inl next ↦ at_next skips has cand start count budget at next.0 passed members are
           (omega (arith, left)) way next.1
-          (λ m further. goes_on skips has cand start count budget are some fuel next.0 (passed + 1) m
-          (omega (arith, left)) further)
+          (λ m further. goes_on skips has cand start count budget are some fuel next.0
+          (passed + 1) m (omega (arith, left)) further)
       | inr none ↦ none_left skips has cand start count budget at passed members are
           (omega (arith, left)) way none
     ]

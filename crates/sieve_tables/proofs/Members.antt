@@ -92,8 +92,8 @@ module _ (holds : WeekYearsHoldDays) (r : IcalRule) (s : Sieve) (is : IsSieveOf 
         fore,
         is.unit,
         table_has s.rank.0 384
-            (rank_in (ical_unit r) (meets_parts r) Back t) (rank_in (ical_unit r) (meets_parts r) Fore t)
-            r.by_set_pos is.rank,
+            (rank_in (ical_unit r) (meets_parts r) Back t)
+            (rank_in (ical_unit r) (meets_parts r) Fore t) r.by_set_pos is.rank,
         either_listed r.by_set_pos
             (pos (rank_in (ical_unit r) (meets_parts r) Back t))
             (neg_ℤ (pos (rank_in (ical_unit r) (meets_parts r) Fore t))),

@@ -151,7 +151,8 @@ module _ (set : ℤ → Bool) (due : Dir → ℤ → ℕ → Stop → Type 0) (w
       subst P (sym on) (
         (all.0, omega (arith, ints, all.1)),
         shorter w.lo.0 (w.hi.0 +ℤ pos 1) w.lo.0
-            ((far -ℤ pos 1) +ℤ pos 1) (omega (arith, ints)) (omega (arith, ints)) (omega (arith, ints)),
+            ((far -ℤ pos 1) +ℤ pos 1) (omega (arith, ints))
+            (omega (arith, ints)) (omega (arith, ints)),
       )
 
   -- nothing is left, seen from either end

@@ -146,7 +146,8 @@ module _ (runs_one : RunsAreUnique) (why_one : AnswersAreUnique) (left : ItemsAr
       first.0).0 in
       let rest = one_walk runs others (limit - 1) mid next after m n line other fits past
       (subst (λ x. AreFirstItems telling.tree x others after) (sym both.1) beyond)
-      (last_less limit run runs next m line h) (last_less limit same others after n other k) d e in (
+      (last_less limit run runs next m line h) (last_less limit same others after n other k)
+      d e in (
         rest.0,
         append_assoc (run_line telling run) (lines_of telling runs) line
             ∙ ap (λ z. run_line telling run ++ z) rest.1

@@ -13,7 +13,8 @@ make-requires t c =
     c.pop.new.self.items c.in-First.op c.in-First.second last in (
       omega (arith, c.decreases, smaller),
       second_is_made whole places c.steps.made
-          c.steps.steps.items c.steps.invariant c.pop.new.self.items c.in-First.op c.in-First.second last
+          c.steps.steps.items c.steps.invariant c.pop.new.self.items c.in-First.op
+          c.in-First.second last
           c.requires,
     )
 

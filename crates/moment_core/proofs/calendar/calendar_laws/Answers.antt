@@ -61,8 +61,10 @@ returns-clause-later_days_are_of_later_units c =
     λ day later h. (
       year_of_mono day later h,
       month_number_mono day later h,
-      λ first.
-          (week_number_mono first day later h, λ in_week. week_year_of_mono first day later in_week h),
+      λ first. (
+        week_number_mono first day later h,
+        λ in_week. week_year_of_mono first day later in_week h,
+      ),
     )
 
 pub returns-clause-dates_repeat : goal.returns-clause-dates_repeat
