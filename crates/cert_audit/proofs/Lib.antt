@@ -1,9 +1,2 @@
-pub mod Edges
-pub mod Looking
-pub mod Moving
-pub mod Passing
 pub mod Readying
-pub mod Rooms
-pub mod RuleTurning
 pub mod Sweeping
-pub mod Turning

@@ -25,12 +25,15 @@ use Rattle.stored_pair.specs.Meanings.{Meaning}
 use Rattle.search_core.specs.Lawful.{AreLawful}
 use Rattle.search_core.specs.Candidates.{candidates, count_between, is_candidate}
 use Rattle.search_core.specs.Due.{IsDue, IsDueInTest}
-use Rattle.search_core.specs.Laws.{FramesHavePeriods, OnePasses, PartsAdd, PlacesAreFewer, TreesRepeat, WiderCountsMore}
+use Rattle.search_core.specs.Laws.{FramesHavePeriods, PlacesAreFewer, TreesRepeat}
 use Rattle.cert_audit.specs.Searches.{unchanged}
 use Rattle.search_core.specs.TreeFrames.{frame_of_tree}
-use Rattle.cert_audit.specs.Turns.{IsTurn, StandsIfCounted, passed_by}
-use Rattle.cert_audit.specs.declared.turns.Turn.{Turn}
-use Rattle.cert_audit.proofs.Passing.{passed_on}
+use Rattle.node_turns.specs.Room.{IsWorkingPosition}
+use Rattle.node_turns.specs.Turns.{IsTurn, StandsIfCounted, StaysCounted}
+use Rattle.node_turns.specs.declared.turns.Turn.{Turn}
+
+pub works_in_range : (p : ℤ) → IsCalendarPosition p → IsWorkingPosition p
+works_in_range p here = (omega (arith, ints, here.0), omega (arith, ints, here.1))
 
 -- nothing differs from p up to the place n steps on, and so many candidates were passed
 pub record Visited (t : Tree Meaning) (dir : Dir) (p end place : ℤ) (passed n : ℕ) : Type 0 where
@@ -58,12 +61,11 @@ at_start t dir p end h = (
 )
 
 -- so many steps to a place, and so many more to its turn
-pub visit : OnePasses → PartsAdd → WiderCountsMore → (t : Tree Meaning) (dir : Dir)
-    (p end place : ℤ) (passed more : ℕ) (next : Turn) → HasVisited t dir p end place passed
-    → IsTurn (is_member t) dir place end (Some next) → StandsIfCounted (is_candidate t) dir
-    (Some next) → is_member t next.place.0 ≡ is_member t p → more ≡ passed_by passed dir p place
-    next → HasVisited t dir p end next.place.0 more
-visit one parts wider t dir p end place passed more next v turn stands same is =
+pub visit : (t : Tree Meaning) (dir : Dir) (p end place : ℤ) (passed more : ℕ) (next : Turn)
+    → HasVisited t dir p end place passed → IsTurn (is_member t) dir place end (Some next)
+    → StandsIfCounted (is_candidate t) dir (Some next) → is_member t next.place.0 ≡ is_member t p
+    → StaysCounted passed dir p place next more → HasVisited t dir p end next.place.0 more
+visit t dir p end place passed more next v turn stands same few =
     let set = is_member t in
     let n = v.0 in
     let m = turn.0 in
@@ -90,8 +92,8 @@ visit one parts wider t dir p end place passed more next v turn stands same is =
         ];
         within = turn.1.within;
         counted =
-            passed_on one parts wider (is_candidate t) dir p place passed more n far next
-            v.1.place_is there (omega arith) v.1.counted v.1.begun stands is;
+            few (is_candidate t) n far v.1.place_is there (omega arith) v.1.counted v.1.begun
+            stands;
         begun = λ e. absurd (omega arith);
       },
     )

@@ -1,5 +1,3 @@
 pub mod Lowered
-pub mod Room
 pub mod Searchable
 pub mod Searches
-pub mod Turns

@@ -2,15 +2,12 @@
 //! keeps nothing.
 #![tactic(auto)]
 
-mod asking;
 mod frames;
 mod laws;
-mod places;
 mod ready;
 mod search;
 #[cfg(test)]
 mod tests;
-mod turns;
 
 pub use frames::frame_of;
 pub use laws::ready_laws;

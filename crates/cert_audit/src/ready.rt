@@ -6,12 +6,12 @@ ghost use Rattle.lowered_tree.specs.Nodes.{meant_of_node};
 ghost use Rattle.cert_audit.specs.Searchable.{IsSearchable, IsSearchable-prop};
 ghost use Rattle.search_core.specs.TreeFrames.{frame_of_tree};
 
-use crate::asking::holds;
-use crate::turns::{Turn, next_turn};
 use expr_tree::{Expr, tree_laws};
 use frame_core::Frame;
 use lowered_tree::{Node, PlanFault, lawful_laws, node_frame};
 use moment_core::{Dir, Pos, Steps};
+use node_members::holds;
+use node_turns::{Turn, next_turn};
 use span_core::{Stop, Test};
 use std::alloc::Global;
 use std::sync::ledger::Ledger;
@@ -31,7 +31,7 @@ impl<'b> Ready<'b> {
     ghost use Rattle.expr_tree.specs.Tree.{meant_of, tree_of};
     ghost use Rattle.stored_pair.specs.Names.{entries_of};
     ghost use Rattle.cert_audit.specs.Lowered.{CanBeReady, members_of, meant_of_ready};
-    ghost use Rattle.cert_audit.specs.Turns.{IsTurn, StandsIfCounted};
+    ghost use Rattle.node_turns.specs.Turns.{IsTurn, StandsIfCounted};
     ghost use Rattle.lowered_tree.specs.Settling.{AreSettled, IsFaultOf};
 
     /// Copies the tree and makes its leaves ready, with the last member of each rule that has a

@@ -6,10 +6,10 @@ ghost use Rattle.cert_audit.specs.Searches.{AnswersAt, unchanged};
 
 use crate::frames::frame_of;
 use crate::ready::Ready;
-use crate::turns::with_candidate;
 use frame_core::{window, window_laws};
 use moment_core::{Dir, HIGH, LOW, Pos, Steps, Window};
-use search_core::{candidate_laws, counting_laws, tree_frame_laws};
+use node_turns::with_candidate;
+use search_core::{candidate_laws, tree_frame_laws};
 use span_core::{Answer, Stop};
 use std::sync::ledger::Ledger;
 
@@ -28,7 +28,6 @@ pub fn sweep<L: Ledger>(r: &Ready, p: Pos, dir: Dir, budget: u64, steps: &mut St
 {
     tree_frame_laws();
     window_laws();
-    counting_laws();
     candidate_laws();
     let window = window_of(r, p, dir);
     let end = search_end(window, dir);

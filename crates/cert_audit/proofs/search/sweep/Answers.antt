@@ -1,8 +1,7 @@
 use Rattle.std.proofs.Common.{arith}
 use Rattle.expr_tree.specs.Members.{is_member}
 use Rattle.cert_audit.specs.Lowered.{frame_of_ready, meant_of_ready}
-use Rattle.cert_audit.proofs.Sweeping.{IsAnswer-found, at_start, changes, end_is, in_range, kept, nothing_differs, steps_left-falls, stops, stops_here, stops_there, turn_in_range, turned, visit}
-use Rattle.cert_audit.proofs.Rooms.{works_in_range}
+use Rattle.cert_audit.proofs.Sweeping.{IsAnswer-found, at_start, changes, end_is, in_range, kept, nothing_differs, steps_left-falls, stops, stops_here, stops_there, turn_in_range, turned, visit, works_in_range}
 use Rattle.cert_audit.proofs.search.sweep.Goals as goal
 
 pub turns-init : goal.turns-init
@@ -63,14 +62,13 @@ returns-then-budget-passed-clause-answer g c =
     c.args.dir c.args.p.0 c.search_end-end.result.0 c.with_candidate-passed.result c.args.budget
     c.in-Some.turn.place
     c.window_of-window.ensures c.search_end-end.ensures
-    (visit c.counting_laws.ensures.one c.counting_laws.ensures.parts c.counting_laws.ensures.wider
-    (meant_of_ready c.args.r.now) c.args.dir c.args.p.0 c.search_end-end.result.0
+    (visit (meant_of_ready c.args.r.now) c.args.dir c.args.p.0 c.search_end-end.result.0
     c.turns.place.0 c.turns.passed c.with_candidate-passed.result c.in-Some.turn
     c.turns.invariant.visited c.in-Some.ensures.turn c.in-Some.ensures.counts
     (kept c.in-Ok-holds.there c.in-Ok.here (is_member (meant_of_ready c.args.r.now)
     c.in-Some.turn.place.0) (is_member (meant_of_ready c.args.r.now) c.args.p.0)
     c.in-Ok-holds.ensures.value c.in-Ok.ensures.value c.if-there-here.false)
-    c.with_candidate-passed.ensures)
+    c.with_candidate-passed.ensures.few)
     c.requires.budget c.if-budget-passed.true
     (turn_in_range (meant_of_ready c.args.r.now) c.args.dir c.args.p.0 c.search_end-end.result.0
     c.turns.place.0 c.turns.passed c.in-Some.turn
@@ -106,14 +104,13 @@ turns-smaller g c =
 pub turns-preserved : goal.turns-preserved
 turns-preserved g c = record {
   visited =
-      visit c.counting_laws.ensures.one c.counting_laws.ensures.parts c.counting_laws.ensures.wider
-      (meant_of_ready c.args.r.now) c.args.dir c.args.p.0 c.search_end-end.result.0 c.turns.place.0
-      c.turns.passed c.with_candidate-passed.result c.in-Some.turn
+      visit (meant_of_ready c.args.r.now) c.args.dir c.args.p.0 c.search_end-end.result.0
+      c.turns.place.0 c.turns.passed c.with_candidate-passed.result c.in-Some.turn
       c.turns.invariant.visited c.in-Some.ensures.turn c.in-Some.ensures.counts
       (kept c.in-Ok-holds.there c.in-Ok.here (is_member (meant_of_ready c.args.r.now)
       c.in-Some.turn.place.0) (is_member (meant_of_ready c.args.r.now) c.args.p.0)
       c.in-Ok-holds.ensures.value c.in-Ok.ensures.value c.if-there-here.false)
-      c.with_candidate-passed.ensures;
+      c.with_candidate-passed.ensures.few;
   room = c.if-budget-passed.false;
   counted =
       omega (
