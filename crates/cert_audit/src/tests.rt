@@ -463,6 +463,26 @@ fn a_search_stops_once_the_candidates_are_as_many_as_the_budget(
 }
 
 #[test]
+fn a_bound_of_a_span_counts_as_a_candidate(rt: HostRuntime) -> Result<(), Fail> {
+    const LASTING: Leaf = Leaf::Span(Bound::Closed(Moment(0)), Bound::Closed(Moment(10)));
+    const ROWS: &[(i64, Dir, u64, i64)] = &[
+        (-5, Dir::Fore, 1, 0),
+        (-5, Dir::Fore, 2, 21),
+        (25, Dir::Back, 1, 20),
+    ];
+    let set = Sketch::Two(LASTING, Join::Minus, LASTING);
+    for (from, dir, budget, at) in ROWS {
+        let stop = Stop {
+            at: Pos(*at),
+            node: 0,
+        };
+        let want = Want::Answer(Pos(*from), *dir, *budget, Answer::Budget(stop));
+        holds(&rt, rt.alloc(), set, want)?;
+    }
+    Ok(())
+}
+
+#[test]
 fn a_search_finds_what_asking_each_position_finds(rt: HostRuntime) -> Result<(), Fail> {
     const SETS: &[Sketch] = &[
         Sketch::One(Leaf::List(Moment(0), Moment(3))),
