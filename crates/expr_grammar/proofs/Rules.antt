@@ -16,7 +16,8 @@ use Rattle.expr_grammar.specs.Fields.{AreFields, HasNumbers, field_tokens, field
 use Rattle.expr_grammar.specs.Form.{FieldForm, Values, Start, Form, Rule}
 use Rattle.expr_grammar.specs.Parsing.{field_at, fields_from, freq_at, freq_named, has_key, is_close, key_named, more_at, number_at, numbers_at, rule_at, values_at, with_freq, with_key}
 use Rattle.moment_core.proofs.Lists.{all_both, all_behind}
-use Rattle.expr_grammar.proofs.Parts.{along, bind_some, found, read_is, some_is}
+use Rattle.expr_grammar.proofs.Parts.{along, bind_some, found, read_is}
+use Rattle.std.proofs.lemmas.Option.{same_Some}
 
 -- names
 
@@ -30,13 +31,13 @@ freq_back freqs.Minutely = refl
 freq_back freqs.Secondly = refl
 
 freq_is : (w : Word) (freq : Freq) → freq_named w ≡ Some freq → w ≡ freq_word freq
-freq_is words.Yearly freq e = ap freq_word (some_is freqs.Yearly freq e)
-freq_is words.Monthly freq e = ap freq_word (some_is freqs.Monthly freq e)
-freq_is words.Weekly freq e = ap freq_word (some_is freqs.Weekly freq e)
-freq_is words.Daily freq e = ap freq_word (some_is freqs.Daily freq e)
-freq_is words.Hourly freq e = ap freq_word (some_is freqs.Hourly freq e)
-freq_is words.Minutely freq e = ap freq_word (some_is freqs.Minutely freq e)
-freq_is words.Secondly freq e = ap freq_word (some_is freqs.Secondly freq e)
+freq_is words.Yearly freq e = ap freq_word (same_Some freqs.Yearly freq e)
+freq_is words.Monthly freq e = ap freq_word (same_Some freqs.Monthly freq e)
+freq_is words.Weekly freq e = ap freq_word (same_Some freqs.Weekly freq e)
+freq_is words.Daily freq e = ap freq_word (same_Some freqs.Daily freq e)
+freq_is words.Hourly freq e = ap freq_word (same_Some freqs.Hourly freq e)
+freq_is words.Minutely freq e = ap freq_word (same_Some freqs.Minutely freq e)
+freq_is words.Secondly freq e = ap freq_word (same_Some freqs.Secondly freq e)
 freq_is w freq e = absurd cc
 
 key_back : (key : Key) → key_named (key_word key) ≡ Some key
@@ -50,14 +51,14 @@ key_back keys.Interval = refl
 key_back keys.WeekStart = refl
 
 key_is : (w : Word) (key : Key) → key_named w ≡ Some key → w ≡ key_word key
-key_is words.Months key e = ap key_word (some_is keys.Months key e)
-key_is words.Weeks key e = ap key_word (some_is keys.Weeks key e)
-key_is words.Days key e = ap key_word (some_is keys.Days key e)
-key_is words.Hours key e = ap key_word (some_is keys.Hours key e)
-key_is words.Minutes key e = ap key_word (some_is keys.Minutes key e)
-key_is words.Seconds key e = ap key_word (some_is keys.Seconds key e)
-key_is words.Interval key e = ap key_word (some_is keys.Interval key e)
-key_is words.WeekStart key e = ap key_word (some_is keys.WeekStart key e)
+key_is words.Months key e = ap key_word (same_Some keys.Months key e)
+key_is words.Weeks key e = ap key_word (same_Some keys.Weeks key e)
+key_is words.Days key e = ap key_word (same_Some keys.Days key e)
+key_is words.Hours key e = ap key_word (same_Some keys.Hours key e)
+key_is words.Minutes key e = ap key_word (same_Some keys.Minutes key e)
+key_is words.Seconds key e = ap key_word (same_Some keys.Seconds key e)
+key_is words.Interval key e = ap key_word (same_Some keys.Interval key e)
+key_is words.WeekStart key e = ap key_word (same_Some keys.WeekStart key e)
 key_is w key e = absurd cc
 
 -- what is read stands there

@@ -20,7 +20,8 @@ use Rattle.expr_grammar.specs.Parsing.{Read, same, stands, chain_from, chain_at,
 use Rattle.expr_grammar.specs.Calls.{number_end_tokens, takes_expression, unary_named}
 use Rattle.expr_grammar.specs.Fields.{rule_tokens}
 use Rattle.expr_grammar.proofs.Rules.{TakesRule, rule_sound}
-use Rattle.expr_grammar.proofs.Parts.{along, bind_some, found, read_is, some_is}
+use Rattle.expr_grammar.proofs.Parts.{along, bind_some, found, read_is}
+use Rattle.std.proofs.lemmas.Option.{cond_some, same_Some}
 
 pub same_is : (p q : Op) → same p q ≡ true → p ≡ q
 same_is operators.Union operators.Union e = refl
@@ -356,10 +357,6 @@ leaf_sound (tokens.LeftBrace ∷ ts) t rest e =
     along (Takes Leaf (tokens.LeftBrace ∷ ts)) (Listed y.0.0) t y.0.1 rest y.2 others
 leaf_sound ts t rest e = rule_leaf ts t rest (rule_sound ts t rest e)
 
-guard_is : {A : Type 0} (b : Bool) (x y : A) → cond b (Some x) None ≡ Some y → (b ≡ true) × (x ≡ y)
-guard_is true x y e = (refl, cc)
-guard_is false x y e = absurd cc
-
 module _ (Whole Atom : Form → List Token → Type 0) (whole_at atom : List Token → Read)
     (whole_sound : IsSound Whole whole_at) (atom_is_sound : IsSound Atom atom) where
   leaf_case : (ts : List Token) (t : Form) (rest : List Token) → leaf_at ts ≡ Some (t, rest)
@@ -437,7 +434,7 @@ module _ (Whole Atom : Form → List Token → Type 0) (whole_at atom : List Tok
   name_is (tokens.Word w ∷ tokens.Open ∷ ts) name inner e =
       let x : Word × List Token = (w, ts) in
       let y : Word × List Token = (name, inner) in
-      let same : x ≡ y = (guard_is (takes_expression w) x y e).1 in
+      let same : x ≡ y = (cond_some (takes_expression w) x y e).1 in
       ap (λ (z : Word × List Token). tokens.Word z.0 ∷ tokens.Open ∷ z.1) same
   name_is ts name inner e = absurd cc
 
@@ -494,7 +491,7 @@ second_sound t front ts p spelled e =
     let x = bind_some (expr_at (atom_at nesting_limit) ts)
     (λ u. cond (eqb (length u.1) 0) (Some (record { first = t; second = Some u.0 })) None) p e in
     let made : Forms = record { first = t; second = Some x.0.0 } in
-    let g = guard_is (eqb (length x.0.1) 0) made p x.2 in
+    let g = cond_some (eqb (length x.0.1) 0) made p x.2 in
     let other = whole_expr_sound ts x.0.0 x.0.1 x.1 in
     let nothing : x.0.1 ≡ [] = nil_from_length x.0.1 (eqb-true _ _ g.0) in
     let whole : ts ≡ other.front = other.whole ∙ ap (λ (r : List Token). other.front ++ r) nothing
@@ -508,7 +505,7 @@ end_sound : (t : Form) (front ts : List Token) (p : Forms) → IsExpr (IsAtom ne
 unfolding program_end_at
 end_sound t front [] p spelled e =
     let made : Forms = record { first = t; second = None } in
-    subst (λ (q : Forms). Spells q (front ++ [])) (some_is made p e)
+    subst (λ (q : Forms). Spells q (front ++ [])) (same_Some made p e)
     (rw (append-nil front) (one t front spelled))
 end_sound t front (tokens.Semicolon ∷ ts) p spelled e = second_sound t front ts p spelled e
 end_sound t front ts p spelled e = absurd cc

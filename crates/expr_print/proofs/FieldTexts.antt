@@ -9,6 +9,7 @@ use Rattle.std.proofs.lemmas.Bool.{or_right}
 use Rattle.rule_core.specs.Values.{is_given}
 use Rattle.expr_grammar.specs.declared.syntax.Key.{Key}
 use Rattle.expr_print.specs.Fields.{fields_text, next_field, numbers_before, start_before}
+use Rattle.std.proofs.Math.Bool.{or-false}
 
 -- one field and those after it
 one_more : (after : Bool) (field : List ℕ) (fields : List (List ℕ))
@@ -20,10 +21,6 @@ one_more true field fields =
 one_more false field fields = ap (λ (x : List ℕ). x ++ flat_map next_field fields)
     (sym (append-nil field))
 
-or_false : (b : Bool) → (b || false) ≡ b
-or_false true = refl
-or_false false = refl
-
 none_after : (after : Bool) → fields_text after [] ≡ []
 none_after true = refl
 none_after false = refl
@@ -31,13 +28,13 @@ none_after false = refl
 numbers_more : (after : Bool) (key : Key) (ns : List ℤ) (fields : List (List ℕ))
     → fields_text after (numbers_before key ns fields)
     ≡ fields_text after (numbers_before key ns []) ++ fields_text (after || is_given ns) fields
-numbers_more after key [] fields = rw (or_false after, none_after after) refl
+numbers_more after key [] fields = rw (or-false after, none_after after) refl
 numbers_more after key (n ∷ ns) fields = rw (or_right after true refl) (one_more after _ fields)
 
 start_more : (after : Bool) (start : Option Stamp) (fields : List (List ℕ))
     → fields_text after (start_before start fields) ≡ fields_text after (start_before start [])
     ++ fields_text (after || is_some start) fields
-start_more after None fields = rw (or_false after, none_after after) refl
+start_more after None fields = rw (or-false after, none_after after) refl
 start_more after (Some s) fields = rw (or_right after true refl) (one_more after _ fields)
 
 -- What was put, and what is still to be put: from one field to the next.

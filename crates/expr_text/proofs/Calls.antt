@@ -1,16 +1,11 @@
 -- Looking for a call that isn't built, token by token.
-use Rattle.std.proofs.Common.{◌≡◌, ℕ, ◌+◌, ◌<◌, ◌≤◌, Bool, true, false, ◌&&◌, ◌||◌, List, [], ◌∷◌, length, drop, get_or, refl, add-one, drop-cons}
+use Rattle.std.proofs.Common.{◌≡◌, ℕ, ◌+◌, ◌<◌, ◌≤◌, Bool, false, ◌&&◌, ◌||◌, List, [], ◌∷◌, length, drop, get_or, add-one, drop-cons}
 use Rattle.std.proofs.lemmas.List.{drop_all}
 use Rattle.expr_tokens.specs.declared.token.Token.{Token as Placed}
 use Rattle.expr_tokens.specs.declared.token.Token.TheVariants as placed
 use Rattle.expr_tokens.specs.Plain.{Token, plain, plains}
 use Rattle.expr_text.specs.Calls.{begins_bracket, calls_unbuilt, is_bracket, names_unbuilt}
-
-swapped : (a b : Bool) → (a && b) ≡ (b && a)
-swapped true true = refl
-swapped true false = refl
-swapped false true = refl
-swapped false false = refl
+use Rattle.std.proofs.Math.Bool.{and_comm}
 
 -- what is left to look at, where the token before the rest may be such a name
 abbrev pub calls_left : Bool → List Token → Bool
@@ -19,7 +14,7 @@ calls_left named ts = (begins_bracket ts && named) || calls_unbuilt ts
 past_token : (named : Bool) (t : Token) (ts : List Token) (total : Bool) → (is_bracket t && named)
     ≡ false → calls_left named (t ∷ ts) ≡ total → calls_left (names_unbuilt t) ts ≡ total
 unfolding calls_unbuilt
-past_token named t ts total none left = rw (swapped (begins_bracket ts) (names_unbuilt t))
+past_token named t ts total none left = rw (and_comm (begins_bracket ts) (names_unbuilt t))
     (rw none at left)
 
 pub past_place : (ts : List Placed) (i : ℕ) (named total : Bool) → i < length ts

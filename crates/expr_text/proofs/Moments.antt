@@ -28,11 +28,12 @@ use Rattle.rrule_text.specs.Laws.{RulesAreWritable}
 use Rattle.rrule_text.specs.Reading.{rule_of}
 use Rattle.expr_text.specs.Rules.{rule_with}
 use Rattle.expr_text.specs.Rrules.{fault_of, fault_of_text}
-use Rattle.expr_text.proofs.Started.{checked, neither, started}
+use Rattle.expr_text.proofs.Started.{checked, started}
 use Rattle.expr_text.specs.Faults.{HasPosition, Tokens, all_spans_of, first_nameless, is_nameless, kinds_of, first_rrule_fault, first_rule_fault, rrule_fault, rule_fault, second_rrule_fault, second_rule_fault, second_spans, spans_of}
 use Rattle.expr_text.specs.Phases.{AreBoth, HasSpans, IsInRange, IsSecond}
 use Rattle.expr_text.specs.Phases.{first_nameless as nameless_in}
 use Rattle.expr_text.specs.Trees.{binary_tree, both, bound_at, bound_of, clock_at, clock_of, is_named, is_some, listed, stamps_of, tree_from, trees_from}
+use Rattle.moment_core.proofs.Options.{or_none}
 
 dated_token : (t : Token) → IsInRange t → is_nameless t ≡ false → HasMoment IsDated t
 dated_token (tokens.Moment None) h named = absurd cc
@@ -245,8 +246,8 @@ module _ (writable : RulesAreWritable) where
       let x = stands a h spans (record { fields = rules.fields; texts = rules.texts }) in
       record { tree = Unary op x.tree; is = rw x.is refl; well_formed = x.well_formed }
   stands (forms.Binary op a b) h spans rules =
-      let fields = neither (rule_fault a) (rule_fault b) rules.fields in
-      let texts = neither (rrule_fault a) (rrule_fault b) rules.texts in
+      let fields = or_none (rule_fault a) (rule_fault b) rules.fields in
+      let texts = or_none (rrule_fault a) (rrule_fault b) rules.texts in
       let x = stands a h.0 spans.0 (record { fields = fields.0; texts = texts.0 }) in
       let y = stands b h.1 spans.1 (record { fields = fields.1; texts = texts.1 }) in
       record {
@@ -278,8 +279,8 @@ module _ (writable : RulesAreWritable) where
   pub all_stand : (p : Forms) → AreBoth (IsMade IsDated) p → AreBoth HasSpans p → first_rule_fault p
       ≡ None → first_rrule_fault p ≡ None → AllStand p
   all_stand p h spans ruled written =
-      let fields = neither (rule_fault p.first) (second_rule_fault p.second) ruled in
-      let texts = neither (rrule_fault p.first) (second_rrule_fault p.second) written in
+      let fields = or_none (rule_fault p.first) (second_rule_fault p.second) ruled in
+      let texts = or_none (rrule_fault p.first) (second_rrule_fault p.second) written in
       with_second p.first p.second
       (stands p.first h.0 spans.0 (record { fields = fields.0; texts = texts.0 })) h.1 spans.1
       fields.1 texts.1

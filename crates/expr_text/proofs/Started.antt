@@ -1,7 +1,6 @@
 -- The rule that dated fields stand for.
 use Rattle.std.proofs.Common.{◌≡◌, pos, List, [], ◌∷◌, Option, Some, None, Result, Ok, Err, refl, arith}
 use Rattle.std.specs.List.{AllByRecursion}
-use Rattle.std.specs.Option.{option_or}
 use Rattle.std.proofs.lemmas.Int.{ints}
 use Rattle.moment_core.specs.Line.{IsCalendarMoment}
 use Rattle.moment_core.specs.declared.line.Stamp.{Stamp}
@@ -30,10 +29,6 @@ started (Start (Some s) ∷ fields) h = record { start = Some s; found = refl; i
 pub checked : (r : Result (Unit {0}) RuleFault) → fault_in_check r ≡ None → r ≡ Ok tt
 checked (Ok done) e = refl
 checked (Err fault) e = absurd cc
-
-pub neither : {F : Type 0} (a b : Option F) → option_or a b ≡ None → (a ≡ None) × (b ≡ None)
-neither None b e = (refl, e)
-neither (Some fault) b e = absurd cc
 
 -- a literal that names a start is that start
 pub same_start : (literal start : Option Stamp) → start_from (Some literal) ≡ Some start

@@ -1,5 +1,5 @@
 -- How the bytes of each kind of token are read, whatever may stand behind them.
-use Rattle.std.proofs.Common.{◌≡◌, ℕ, suc, ◌≤◌, ◌<◌, pos, Bool, true, false, cond, ◌&&◌, ◌⊎◌, inl, inr, List, [], ◌∷◌, ◌++◌, length, take, drop, Option, Some, None, refl, sym, ap, subst, ◌∙◌, append_assoc, arith}
+use Rattle.std.proofs.Common.{◌≡◌, ℕ, suc, ◌≤◌, ◌<◌, pos, Bool, true, false, cond, ◌&&◌, ◌⊎◌, inl, inr, List, [], ◌∷◌, ◌++◌, length, take, drop, Option, Some, refl, sym, ap, subst, ◌∙◌, append_assoc, arith}
 use Rattle.std.specs.Prelude.{nat_le, ◌==◌, codes}
 use Rattle.std.proofs.Math.Seq.{take-append_seam, drop-append_seam}
 use Rattle.std.proofs.lemmas.List.{take-append-drop}
@@ -20,6 +20,7 @@ use Rattle.expr_tokens.specs.Laws.{goes_on}
 use Rattle.expr_tokens.specs.Longest.{AreDigits}
 use Rattle.expr_tokens.proofs.Runs.{run_and_rest}
 use Rattle.expr_tokens.proofs.Stamps.{moment_there}
+use Rattle.std.proofs.lemmas.Option.{none-some}
 
 -- The bytes are read as this token where the rest stands behind them.
 pub record Reads (bytes : List ℕ) (t : Token) (rest : List ℕ) : Type 0 where
@@ -81,9 +82,6 @@ one_sign : (k b : ℕ) (u t : Token) (others : Option Token) → SignByte k
 one_sign k b u t others here more e = elim (cases_Bool (b == k))
     [ inl h ↦ subst SignByte (sym (eqb-true b k h)) here | inr h ↦ more (rw h at e) ]
 
-none_some : (t : Token) → None ≡ Some t → ⊥
-none_some t e = absurd cc
-
 pub sign_byte : (b : ℕ) (t : Token) → sign_of b ≡ Some t → SignByte b
 unfolding sign_of
 sign_byte b t e =
@@ -98,7 +96,7 @@ sign_byte b t e =
     one_sign 38 b _ t _ (record { letter = refl; blank = refl; quote = refl; digit = refl }) (λ e.
     one_sign 45 b _ t _ (record { letter = refl; blank = refl; quote = refl; digit = refl }) (λ e.
     one_sign 33 b _ t _ (record { letter = refl; blank = refl; quote = refl; digit = refl })
-    (λ e. absurd (none_some t e))
+    (λ e. absurd (none-some t e))
     e) e) e) e) e) e) e) e) e) e) e
 
 -- a sign that begins no number

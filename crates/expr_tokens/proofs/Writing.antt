@@ -4,7 +4,6 @@ use Rattle.std.specs.Fmt.{decimal}
 use Rattle.std.specs.List.{list_all}
 use Rattle.std.proofs.lemmas.Str.Parse.{numerals_by_fold, IsNumeralModel}
 use Rattle.std.proofs.lemmas.Fmt.{digits_decimal, digits_value-decimal, decimal_nonempty, length-decimal-le}
-use Rattle.std.proofs.lemmas.Int.{ints}
 use Rattle.std.proofs.lemmas.List.{append-nil}
 use Rattle.moment_core.specs.Texts.{with_sign}
 use Rattle.moment_text.specs.Laws.{FrontsAreLongest, LiteralsAreShaped, LiteralsTellMomentsApart, ShapedTextsHaveForms, ShapesEnd}
@@ -23,6 +22,7 @@ use Rattle.expr_tokens.specs.Longest.{AreDigits}
 use Rattle.expr_tokens.proofs.Lexing.{nothing_from}
 use Rattle.expr_tokens.proofs.OneToken.{Reads, sign_read, name_read, text_read, number_read, negative_read, moment_read}
 use Rattle.expr_tokens.proofs.Stamps.{stamp_of-literal}
+use Rattle.moment_core.proofs.Signs.{minus_suc}
 
 before-append : (ts us : List Token) (read : Result (List Token) ℕ) → before ts (before us read)
     ≡ before (ts ++ us) read
@@ -148,9 +148,6 @@ decimal_digits n short = record {
   most = length-decimal-le 13 n (omega arith) short (omega arith);
 }
 
-negative : (n : ℕ) → with_sign true (suc n) ≡ negsuc n
-negative n = grind (arith, ints)
-
 module _ (forms : ShapedTextsHaveForms) (fronts : FrontsAreLongest) (shapes_end : ShapesEnd) where
   pub Lexes-number : NumbersAreRead
   Lexes-number (pos n) rest short stop =
@@ -160,7 +157,7 @@ module _ (forms : ShapedTextsHaveForms) (fronts : FrontsAreLongest) (shapes_end 
   Lexes-number (negsuc n) rest short stop =
       let value : value_from 0 (decimal (suc n)) ≡ suc n = digits_value-decimal own (suc n)
       (omega arith) in
-      rw (value, negative n) at
+      rw (value, minus_suc n) at
       (Lexes-token (45 ∷ decimal (suc n))
       (tokens.Number (with_sign true (value_from 0 (decimal (suc n))))) rest
       (negative_read forms fronts shapes_end (decimal (suc n)) rest (decimal_digits (suc n) short)

@@ -1,6 +1,6 @@
 -- What the numbers at or before one say, in plain words.
 use Rattle.std.proofs.Common.{◌≡◌, ◌↔◌, inl, inr, refl, ap, sym, ◌∙◌, arith, ℕ, zero, suc, ℤ, pos, ◌-ℤ◌, ◌≤ℤ◌, ◌<ℤ◌, Bool, true, false, not, ◌&&◌, ◌||◌}
-use Rattle.std.proofs.lemmas.Bool.{and_from, and_parts, both_ways, not-true, or_cases}
+use Rattle.std.proofs.lemmas.Bool.{and_from, and_parts, both_ways, not-true, or_cases, not_from_false, or_left, or_right}
 use Rattle.std.proofs.lemmas.Int.{ints, by_lt_z}
 use Rattle.expr_tree.specs.Backs.{is_open, some_back}
 
@@ -21,12 +21,6 @@ is_open-suc : (o c : ℤ → Bool) (z : ℤ) (n : ℕ)
     → is_open o c z (suc n) ≡ (o z || (not (c z) && is_open o c (z -ℤ pos 1) n))
 unfolding is_open
 is_open-suc o c z n = refl
-
-or-true : (x y : Bool) → x ≡ true → (x || y) ≡ true
-or-true x y e = grind (arith, e)
-
-or-true_right : (x y : Bool) → y ≡ true → (x || y) ≡ true
-or-true_right x y e = grind (arith, e)
 
 -- one of the n numbers up to z passes
 abbrev pub IsBack : (ℤ → Bool) → ℤ → ℕ → Type 0
@@ -49,10 +43,10 @@ some_back-finds : (test : ℤ → Bool) (z : ℤ) (n : ℕ) (t : ℤ) → (z -�
 some_back-finds test z zero t low high e = absurd (omega (arith, ints))
 some_back-finds test z (suc n) t low high e =
     by_lt_z t z
-    (λ past. some_back-suc test z n ∙ or-true_right (test z) (some_back test (z -ℤ pos 1) n)
+    (λ past. some_back-suc test z n ∙ or_right (test z) (some_back test (z -ℤ pos 1) n)
     (some_back-finds test (z -ℤ pos 1) n t (omega (arith, ints)) (omega (arith, ints)) e))
     (λ above. let same : z ≡ t = omega (arith, ints) in
-    some_back-suc test z n ∙ or-true (test z) (some_back test (z -ℤ pos 1) n) (ap test same ∙ e))
+    some_back-suc test z n ∙ or_left (test z) (some_back test (z -ℤ pos 1) n) (ap test same ∙ e))
 
 pub some_back-is : (test : ℤ → Bool) (z : ℤ) (n : ℕ) → (some_back test z n ≡ true) ↔ IsBack test z n
 some_back-is test z n = (some_back-shows test z n, λ r. some_back-finds test z n r.0 r.1 r.2 r.3)
@@ -91,21 +85,18 @@ is_open-shows o c z (suc n) e =
           )
     ]
 
-not-of_false : (x : Bool) → x ≡ false → not x ≡ true
-not-of_false x e = grind (arith, e)
-
 is_open-finds : (o c : ℤ → Bool) (z : ℤ) (n : ℕ) (t : ℤ) → (z -ℤ pos n) <ℤ t → t ≤ℤ z → o t ≡ true
     → ((u : ℤ) → t <ℤ u → u ≤ℤ z → c u ≡ false) → is_open o c z n ≡ true
 is_open-finds o c z zero t low high e none = absurd (omega (arith, ints))
 is_open-finds o c z (suc n) t low high e none =
     by_lt_z t z
-    (λ past. is_open-suc o c z n ∙ or-true_right (o z) (not (c z) && is_open o c (z -ℤ pos 1) n)
-    (and_from (not (c z)) (is_open o c (z -ℤ pos 1) n) (not-of_false (c z)
+    (λ past. is_open-suc o c z n ∙ or_right (o z) (not (c z) && is_open o c (z -ℤ pos 1) n)
+    (and_from (not (c z)) (is_open o c (z -ℤ pos 1) n) (not_from_false (c z)
     (none z past (omega (arith, ints))))
     (is_open-finds o c (z -ℤ pos 1) n t (omega (arith, ints)) (omega (arith, ints)) e
     (λ u a b. none u a (omega (arith, ints))))))
     (λ above. let same : z ≡ t = omega (arith, ints) in
-    is_open-suc o c z n ∙ or-true (o z) (not (c z) && is_open o c (z -ℤ pos 1) n) (ap o same ∙ e))
+    is_open-suc o c z n ∙ or_left (o z) (not (c z) && is_open o c (z -ℤ pos 1) n) (ap o same ∙ e))
 
 pub is_open-is : (o c : ℤ → Bool) (z : ℤ) (n : ℕ) → (is_open o c z n ≡ true) ↔ IsOpenBack o c z n
 is_open-is o c z n = (is_open-shows o c z n, λ r. is_open-finds o c z n r.0 r.1 r.2 r.3 r.4)

@@ -5,7 +5,6 @@ use Rattle.frame_core.specs.Periods.{in_width, period_of_rule}
 use Rattle.frame_core.specs.declared.frames.Frame.{Frame}
 use Rattle.moment_core.specs.TimeOfDay.{day_of}
 use Rattle.moment_core.specs.Units.{units_of}
-use Rattle.field_rules.proofs.TestLemmas.{and_true}
 use Rattle.rule_core.specs.FieldMembers.{field_unit, has_field, is_field_candidate, meets_fields}
 use Rattle.rule_core.specs.declared.field.FieldRule.{FieldRule}
 use Rattle.sieve_core.specs.Members.{is_between, is_candidate, is_mark, meets_interval, meets_rank, meets_rule, meets_tests}
@@ -16,6 +15,7 @@ use Rattle.field_rules.specs.Leaves.{IsWholeSieve, frame_of_rule, framed_everywh
 use Rattle.field_rules.specs.Lowered.{IsSieveOfRule, meaning_of_leaf}
 use Rattle.field_rules.specs.Rules.{frame_of_field, meaning_of_field}
 use Rattle.field_rules.specs.declared.leaf.FieldLeaf.{FieldLeaf}
+use Rattle.std.proofs.Math.Bool.{and-true}
 
 module _ (r : FieldRule) (s : Sieve) (is : IsSieveOfRule r s) where
   tests_same : (t : ℤ) → meets_tests s t ≡ meets_fields r t
@@ -25,7 +25,7 @@ module _ (r : FieldRule) (s : Sieve) (is : IsSieveOfRule r s) where
   members_same : (t : ℤ) → meets_rule s t ≡ has_field r t
   unfolding meets_rule meets_interval meets_rank has_field
   members_same t =
-      rw (tests_same t, is.rank, is.interval, is.unit, is.phase, and_true _) refl
+      rw (tests_same t, is.rank, is.interval, is.unit, is.phase, and-true _) refl
 
   candidates_same : IsWholeSieve s → (t : ℤ) → is_candidate s t ≡ is_field_candidate r t
   unfolding is_candidate is_between is_mark is_field_candidate

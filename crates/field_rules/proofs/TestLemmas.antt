@@ -26,6 +26,7 @@ use Rattle.sieve_core.specs.declared.tables.Sieve.{Sieve}
 use Rattle.sieve_tables.specs.Laws.{TablesTestLists, WeekdaysByThemselves}
 use Rattle.sieve_tables.specs.Lowered.{IsTableOf}
 use Rattle.field_rules.specs.Tested.{or_first, month_days_by, months_by, week_days_by, weeks_by, year_days_by, yearly_months}
+use Rattle.std.proofs.Math.Bool.{and-true}
 
 -- the first value means itself
 first_means : (base first own : ℕ) → (own == first) ≡ (int_eq (meant base (pos first)) (pos own)
@@ -113,10 +114,6 @@ tables_meet holds table alone c r d is day =
     (weekday_within day) in
     rw (is.first, months_at, weeks_at, year_at, month_at, days_at) refl
 
-pub and_true : (b : Bool) → (b && true) ≡ b
-and_true true = refl
-and_true false = refl
-
 -- the months of a yearly rule
 months_meet : (r : FieldRule) (m : ℕ) → meets_part (yearly_months r) 13 m
     ≡ (not (is_yearly r.freq) || meets r.months 13 1 m)
@@ -130,21 +127,21 @@ months_meet r m = by_freq (is_yearly r.freq) refl
 
 lists_same : (c : Counted) (r : FieldRule) (day : ℤ) → lists_meet c r day ≡ meets_day c r day
 unfolding meets_day meets_part
-lists_same OfYear r day = and_true _ ∙ and_true _
+lists_same OfYear r day = and-true _ ∙ and-true _
     ∙ sym (meets_filled r.days (year_len_of day + 1) 1 (day_of_year day))
 lists_same OfMonth r day =
-    and_true _ ∙ rw (
+    and-true _ ∙ rw (
       months_meet r (month_of day),
       sym (meets_filled r.days (month_len_of day + 1) 1
           (day_of_month day)),
-      and_true (not (is_yearly r.freq) || meets r.months 13 1 (month_of day)),
-      and_true (not (is_yearly r.freq) || meets r.months 13 1 (month_of day)),
+      and-true (not (is_yearly r.freq) || meets r.months 13 1 (month_of day)),
+      and-true (not (is_yearly r.freq) || meets r.months 13 1 (month_of day)),
     ) refl
 lists_same OfWeek r day =
     let first = first_weekday r.week_start in
     let weeks = not (is_given r.weeks)
     || is_listed r.weeks (weeks_in_year first (week_year_of first day) + 1) (week_of first day) in
-    rw (and_true weeks, and_true weeks, meets_filled r.days 8 first (weekday_of day)) refl
+    rw (and-true weeks, and-true weeks, meets_filled r.days 8 first (weekday_of day)) refl
 lists_same Never r day = refl
 
 pub days_same : WeekYearsHoldDays → TablesTestLists → WeekdaysByThemselves

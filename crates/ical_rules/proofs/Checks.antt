@@ -7,7 +7,6 @@ use Rattle.std.proofs.lemmas.Bool.Decides.{nat_tests}
 use Rattle.std.proofs.lemmas.Int.{ints}
 use Rattle.std.proofs.lemmas.List.Elements.{All-cons}
 use Rattle.moment_core.specs.declared.line.Moment.{Moment}
-use Rattle.moment_core.proofs.Truths.{or_assoc}
 use Rattle.rule_core.specs.FieldChecks.{is_interval}
 use Rattle.rule_core.specs.IcalChecks.{check_ical, is_bad_item, is_bad_part, is_until}
 use Rattle.rule_core.specs.Laws.{IcalValuesFit, UntilsAreOfYears}
@@ -18,6 +17,7 @@ use Rattle.rule_core.specs.declared.part.Part.TheVariants as parts
 use Rattle.sieve_tables.specs.Lowered.{IsDayEntry, IsEntry}
 use Rattle.sieve_tables.specs.Masks.{IsPlain}
 use Rattle.ical_rules.specs.Starts.{IsLastMoment}
+use Rattle.std.proofs.Math.Bool.{or_assoc}
 
 -- where none is bad, each is good
 each_is : {X : Type 0} (P : X → Type 0) (bad : X → Bool) → ((v : X) → bad v ≡ false → P v)

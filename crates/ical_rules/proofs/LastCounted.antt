@@ -19,17 +19,13 @@ use Rattle.moment_core.specs.declared.line.Moment.{Moment}
 use Rattle.moment_core.proofs.Comparing.{int_eq-is}
 use Rattle.ical_rules.specs.Rules.{IsSettled, first_of, is_member_number, is_up_to, last_by, last_counted, start_of}
 use Rattle.ical_rules.proofs.Counting.{within-count}
+use Rattle.moment_core.proofs.Options.{no_head}
 
 -- the first of n moments that passes a test is one of them
 head_some : (b : Bool) (t u : ℤ) (rest : Option ℤ) → (if b then Some t else rest) ≡ Some u
     → ((b ≡ true) × (u ≡ t)) ⊎ (rest ≡ Some u)
 head_some true t u rest e = inl (refl, cc)
 head_some false t u rest e = inr e
-
-head_none : (b : Bool) (t : ℤ) (rest : Option ℤ) → (if b then Some t else rest) ≡ None → (b ≡ false)
-    × (rest ≡ None)
-head_none true t rest e = absurd cc
-head_none false t rest e = (refl, e)
 
 first_some : (test : ℤ → Bool) (t : ℤ) (n : ℕ) (u : ℤ) → first_of test t n ≡ Some u → (k : ℕ)
     × (k < n) × (u ≡ t +ℤ pos k) × (test u ≡ true)
@@ -47,11 +43,11 @@ unfolding first_of
 first_none test t zero k e below = absurd (omega (arith, below))
 first_none test t (suc n) zero e below =
     let here : t +ℤ pos 0 ≡ t = omega (arith, ints) in
-    ap test here ∙ (head_none (test t) t (first_of test (t +ℤ pos 1) n) e).0
+    ap test here ∙ (no_head (test t) t (first_of test (t +ℤ pos 1) n) e).0
 first_none test t (suc n) (suc k) e below =
     let there : t +ℤ pos (suc k) ≡ (t +ℤ pos 1) +ℤ pos k = omega (arith, ints) in
     ap test there ∙ first_none test (t +ℤ pos 1) n k
-    (head_none (test t) t (first_of test (t +ℤ pos 1) n) e).1 (omega arith)
+    (no_head (test t) t (first_of test (t +ℤ pos 1) n) e).1 (omega arith)
 
 -- t is the member with COUNT's number
 pub record IsLastCounted (r : IcalRule) (count t : ℤ) : Type 0 where

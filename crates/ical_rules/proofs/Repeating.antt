@@ -24,6 +24,7 @@ use Rattle.ical_rules.specs.Rules.{frame_of_ical, framed_as, framed_by, framed_l
 use Rattle.ical_rules.specs.Starts.{IsLastMoment}
 use Rattle.ical_rules.proofs.Checks.{interval_is, until_is}
 use Rattle.ical_rules.proofs.LastCounted.{last_counted_is, none_past}
+use Rattle.std.proofs.Math.Bool.{and-true}
 
 -- a set of moments repeats by a frame, where its test does from the frame's ends on
 repeats-by : (has : ℤ → Bool) (frame : Frame) → ((t : ℤ) → frame.hi.0 ≤ℤ position_of t
@@ -92,11 +93,7 @@ ical-endless : (r : IcalRule) (t : ℤ) → r.count ≡ None → has_ical r t �
 unfolding has_ical
 ical-endless r t e =
     ap (λ c. has_uncounted r t && is_within_count c (count_to (has_uncounted r) (start_of r) t)) e
-    ∙ and_true (has_uncounted r t)
-  where
-    and_true : (b : Bool) → (b && true) ≡ b
-    and_true true = refl
-    and_true false = refl
+    ∙ and-true (has_uncounted r t)
 
 framed-endless : (r : IcalRule) (period : ℕ) → IsCalendarMoment (start_of r) → 1 ≤ period
     → ((t : ℤ) → start_of r ≤ℤ t → has_ical r (t +ℤ pos period) ≡ has_ical r t)

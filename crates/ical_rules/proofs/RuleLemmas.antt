@@ -29,6 +29,7 @@ use Rattle.ical_rules.specs.declared.outcome.Settled.TheVariants.{Last, Open}
 use Rattle.ical_rules.specs.declared.outcome.Unsettled.{Unsettled}
 use Rattle.ical_rules.proofs.Counting.{count_to_rises}
 use Rattle.ical_rules.proofs.OutcomeLemmas.{beyond, one_outcome, outcome-same, some_outcome}
+use Rattle.std.proofs.Math.Bool.{and-true}
 
 -- COUNT is a positive number
 outside_none : (count : ℤ) → (not (int_le (pos 1) count && int_le count (pos 1_000_000_000))
@@ -249,11 +250,7 @@ positive_count fit r n e checked = positive_by fit r r.count n refl e checked
 uncounted-is : (r : IcalRule) (t : ℤ) → has_ical (without_count r) t ≡ has_uncounted r t
 unfolding has_ical has_uncounted meets_set_pos meets_parts filled meets_by_date meets_by_day
     meets_by_time
-uncounted-is r t = and_true (has_uncounted r t)
-  where
-    and_true : (b : Bool) → (b && true) ≡ b
-    and_true true = refl
-    and_true false = refl
+uncounted-is r t = and-true (has_uncounted r t)
 
 pub uncounted_from : (r : IcalRule) (leaf : IcalLeaf) (s : Sieve) → leaf.sieve ≡ s → leaf.until
     ≡ r.until → leaf.count ≡ None

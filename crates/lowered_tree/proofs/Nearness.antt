@@ -22,18 +22,13 @@ use Rattle.search_core.specs.Laws.{FramesHavePeriods, FramesMoveWithinReach}
 use Rattle.search_core.specs.TreeFrames.{frame_of_tree, join_framed, moved, opened, span_frame, span_hi, span_lo}
 use Rattle.search_core.specs.Unary.{hi_moves, lo_moves}
 use Rattle.lowered_tree.specs.Modest.{HasModestLeaves, IsWithin, farthest_end}
-
-pub some_map : (o : Option Frame) (P Q : Frame → Type 0) → ((f : Frame) → P f → Q f) → IfSome o P
-    → IfSome o Q
-some_map (Some f) P Q h p = h f p
-some_map None P Q h p = tt
+use Rattle.std.proofs.lemmas.Option.{IfSome_then}
 
 abbrev AreWithin : Option Frame → ℕ → Type 0
 AreWithin o n = IfSome o (IsWithin n)
 
 wider : (o : Option Frame) (m n : ℕ) → m ≤ n → AreWithin o m → AreWithin o n
-wider o m n h =
-    some_map o (IsWithin m) (IsWithin n) (λ f w. (omega (arith, w.0), omega (arith, w.1)))
+wider o m n h w = IfSome_then o w (λ f near. (omega (arith, near.0), omega (arith, near.1)))
 
 join_within : (a b : Frame) (n : ℕ) → IsWithin n a → IsWithin n b → (t : Bool)
     → nat_le (least_common a.period b.period) WIDTH ≡ t → AreWithin (join_of a b) n
@@ -136,8 +131,8 @@ module _ (periods : FramesHavePeriods) (moves : FramesMoveWithinReach) where
       modest_within (span_frame bounds) (farthest_end (Spanned bounds low high)) (omega arith)
       modest
   tree_near (Ruled rule) law modest =
-      some_map rule.frame AreModest (IsWithin (farthest_end (Ruled rule))) (λ f m. modest_within f
-      (farthest_end (Ruled rule)) (omega arith) m) modest
+      IfSome_then rule.frame modest
+      (λ f m. modest_within f (farthest_end (Ruled rule)) (omega arith) m)
   tree_near (Joined op a b) law modest =
       join_framed-within (frame_of_tree a) (frame_of_tree b) (farthest_end (Joined op a b))
       (wider (frame_of_tree a) (farthest_end a) (farthest_end (Joined op a b)) (omega arith)

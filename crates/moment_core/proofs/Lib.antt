@@ -7,7 +7,9 @@ pub mod Gaps
 pub mod LineLaws
 pub mod Lists
 pub mod MonthLaws
+pub mod Options
 pub mod Order
+pub mod Signs
 pub mod TimeLaws
 pub mod Truths
 pub mod UnitLaws

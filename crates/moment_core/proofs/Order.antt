@@ -24,6 +24,12 @@ pub one_on_up_to : (dir : Dir) (p q : ℤ) → IsUpTo dir q (ahead dir p 1) → 
 one_on_up_to Fore p q h = omega (arith, ints)
 one_on_up_to Back p q h = omega (arith, ints)
 
+-- a place some steps on is past the one that they begin at
+pub later_by_steps : (dir : Dir) (p q : ℤ) (n : ℕ) → q ≡ ahead dir p n → 0 < n
+    → IsUpTo dir q (ahead dir p 1)
+later_by_steps Fore p q n e h = omega (arith, ints)
+later_by_steps Back p q n e h = omega (arith, ints)
+
 pub ahead_up_to : (dir : Dir) (p : ℤ) (n : ℕ) → IsUpTo dir (ahead dir p n) p
 ahead_up_to Fore p n = omega (arith, ints)
 ahead_up_to Back p n = omega (arith, ints)

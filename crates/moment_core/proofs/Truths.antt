@@ -1,9 +1,5 @@
 -- What holds of every truth value.
-use Rattle.std.proofs.Common.{◌≡◌, ◌⊎◌, inl, inr, refl, sym, ◌∙◌, Bool, true, false, not, ◌||◌}
-
-pub or_assoc : (a b c : Bool) → ((a || b) || c) ≡ (a || (b || c))
-or_assoc true b c = refl
-or_assoc false b c = refl
+use Rattle.std.proofs.Common.{◌≡◌, ◌⊎◌, inl, inr, refl, sym, Bool, true, false, not}
 
 pub same_or_not : (a b : Bool) → (a ≡ b) ⊎ (a ≡ not b)
 same_or_not true true = inl refl
@@ -21,6 +17,3 @@ pub same_truth : (x y : Bool) → (x ≡ true → y ≡ true) → (y ≡ true �
 same_truth true y h k = sym (h refl)
 same_truth false true h k = k refl
 same_truth false false h k = refl
-
-pub true-false : (b : Bool) → b ≡ true → b ≡ false → ⊥
-true-false b t f = let e : true ≡ false = sym t ∙ f in absurd cc

@@ -1,6 +1,6 @@
 -- Looking back from a position: what was seen on the way, and why it may stop.
-use Rattle.std.proofs.Common.{◌≡◌, ◌⊎◌, refl, ap, sym, subst, ◌∙◌, inl, inr, arith, ℕ, ◌+◌, ◌<◌, ◌≤◌, ℤ, pos, ◌+ℤ◌, ◌-ℤ◌, ◌≤ℤ◌, ◌<ℤ◌, unsigned_abs, Bool, true, false, Some, None, Result, Ok, Err, IfErr}
-use Rattle.std.proofs.lemmas.Bool.{both_ways, cases_Bool, or_parts}
+use Rattle.std.proofs.Common.{◌≡◌, ◌⊎◌, refl, ap, sym, subst, ◌∙◌, inl, inr, arith, ℕ, ◌+◌, ◌<◌, ◌≤◌, ℤ, pos, ◌+ℤ◌, ◌-ℤ◌, ◌≤ℤ◌, ◌<ℤ◌, unsigned_abs, Bool, true, false, Some, None}
+use Rattle.std.proofs.lemmas.Bool.{both_ways, cases_Bool, or_parts, false_from_ne_true}
 use Rattle.std.proofs.lemmas.Int.{by_lt_z, ints}
 use Rattle.moment_core.specs.Line.{is_moment, moment_of, position_of}
 use Rattle.moment_core.specs.declared.joining.UnaryOp.TheVariants.{During}
@@ -164,10 +164,6 @@ even_member set z alone e = elim (cases_Bool (is_moment z)) [
       absurd (both_ways (set z) (ap set (sym place) ∙ alone (moment_of z)) e)
 ]
 
-false_unless : (x : Bool) → (x ≡ true → ⊥) → x ≡ false
-false_unless true h = absurd (h refl)
-false_unless false h = refl
-
 none_to : (event candidate : ℤ → Bool) (p : ℤ) (l : Look) → IsLook event candidate p l
     → event l.place.0 ≡ false → (z : ℤ) → l.place.0 ≤ℤ z → z ≤ℤ p → event z ≡ false
 none_to event candidate p l looked none z low high = by_lt_z l.place.0 z
@@ -188,7 +184,7 @@ module _ (lasts : LastsFromMoment) (back : DurationsLookBack) (cover : PlacesAre
 
   pub during_out : (set : ℤ → Bool) (seconds p : ℤ) → ((z : ℤ) → (p -ℤ position_of seconds) <ℤ z
       → z ≤ℤ p → set z ≡ false) → lasts_at set seconds p ≡ false
-  during_out set seconds p none = false_unless (lasts_at set seconds p) (λ e.
+  during_out set seconds p none = false_from_ne_true (lasts_at set seconds p) (λ e.
       let r : IsLasting set seconds p = (lasts set seconds p).0 e in
       let t : ℤ = r.0 in
       let low : position_of t ≤ℤ p = r.2 in
@@ -257,7 +253,7 @@ module _ (between : IsBetweenMoments) (back : PairsLookBack) (cover : PlacesAreF
 
   pub pairs_out : (f g : ℤ → Bool) (p : ℤ) → ((z : ℤ) → position_of LOW ≤ℤ z → z ≤ℤ p
       → either f g z ≡ false) → is_between f g p ≡ false
-  pairs_out f g p none = false_unless (is_between f g p) (λ e.
+  pairs_out f g p none = false_from_ne_true (is_between f g p) (λ e.
       let r : IsBetween f g p = (between f g p).0 e in
       let t : ℤ = r.0 in
       let low : LOW ≤ℤ t = r.1 in
@@ -267,7 +263,7 @@ module _ (between : IsBetweenMoments) (back : PairsLookBack) (cover : PlacesAreF
   pub pairs_closed : (f g candidate : ℤ → Bool) (p : ℤ) (l : Look) → HasMomentsAlone g
       → IsLook (either f g) candidate p l → f l.place.0 ≡ false → g l.place.0 ≡ true
       → is_between f g p ≡ false
-  pairs_closed f g candidate p l alone looked none e = false_unless (is_between f g p) (λ h.
+  pairs_closed f g candidate p l alone looked none e = false_from_ne_true (is_between f g p) (λ h.
       let place = l.place.0 in
       let n = looked.0 in
       let at : place ≡ p -ℤ pos n = looked.1.place in
@@ -327,9 +323,3 @@ module _ (between : IsBetweenMoments) (back : PairsLookBack) (cover : PlacesAreF
         omega (arith, ints),
         due,
       )
-
--- what is so of every stop is so of the one that an error has
-pub err_map : (r : Result Bool Stop) (P Q : Stop → Type 0) → ((s : Stop) → P s → Q s) → IfErr r P
-    → IfErr r Q
-err_map (Ok v) P Q f h = tt
-err_map (Err s) P Q f h = f s h

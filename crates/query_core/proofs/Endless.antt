@@ -1,7 +1,7 @@
 -- What the answers of queries say past the calendar range, where the set repeats, and that their
 -- moments lie in it.
 use Rattle.std.proofs.Common.{◌≡◌, inl, inr, sym, ap, subst, ◌∙◌, arith, ℕ, ◌+◌, ◌-◌, ℤ, ◌≤ℤ◌, Bool, true, false, if◌then◌else◌}
-use Rattle.std.proofs.lemmas.Bool.{cases_lt}
+use Rattle.std.proofs.lemmas.Bool.{cases_lt, both_ways}
 use Rattle.std.proofs.lemmas.Int.{ints}
 use Rattle.moment_core.specs.Line.{IsCalendarMoment, IsCalendarPosition, position_of}
 use Rattle.moment_core.specs.Sets.{seen, IsUpTo, range_end}
@@ -9,7 +9,6 @@ use Rattle.moment_core.specs.declared.line.Dir.{Dir}
 use Rattle.moment_core.specs.declared.line.Dir.TheVariants.{Fore, Back}
 use Rattle.moment_core.specs.declared.line.Window.{Window}
 use Rattle.moment_core.proofs.LineLaws.{position_in_range, seen-on, moment_in_range}
-use Rattle.moment_core.proofs.Truths.{true-false}
 use Rattle.moment_core.proofs.Comparing.{cases_le_z}
 use Rattle.moment_core.proofs.Order.{steps_to}
 use Rattle.span_core.specs.Answers.{IsCalendarNear, IsFound}
@@ -173,7 +172,7 @@ module _ (none : NoneIsForEver) (hold : ItemsHoldForEver) (tree : Tree Meaning) 
             let gone : seen set dir p (k + 1) ≡ false =
             ap (seen set dir p) (sym at) ∙ sym (seen-on set dir p z n j past.1.1)
             ∙ none tree dir z w lawful past.2 found j ∙ gap_at_change set dir p z past.0 past.1 in
-            absurd (true-false (seen set dir p (k + 1)) begins gone)
+            absurd (both_ways (seen set dir p (k + 1)) gone begins)
       ]
   none_begins dir p z w here (inr same) found k begins =
       let at : IsFound (is_member tree) (window_of tree dir p) dir p (answers.None w) =

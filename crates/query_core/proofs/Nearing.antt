@@ -1,6 +1,6 @@
 -- The next run past a position, put together from the answers of searches.
 use Rattle.std.proofs.Common.{◌≡◌, inl, inr, ap, refl, sym, subst, ◌∙◌, arith, ℕ, zero, suc, ◌+◌, ◌-◌, ◌<◌, ℤ, Bool, true, false, not, Option}
-use Rattle.std.proofs.lemmas.Bool.{cases_lt}
+use Rattle.std.proofs.lemmas.Bool.{cases_lt, both_ways}
 use Rattle.std.proofs.lemmas.Int.{ints}
 use Rattle.moment_core.specs.Line.{IsCalendarPosition}
 use Rattle.moment_core.specs.Sets.{ahead, seen, BeginsFirst, DiffersFirst, IsNextBeginning, IsNextChange, NoneBegins, StaysInRange}
@@ -8,7 +8,6 @@ use Rattle.moment_core.specs.declared.line.Dir.{Dir}
 use Rattle.moment_core.specs.declared.line.Dir.TheVariants.{Fore, Back}
 use Rattle.moment_core.specs.declared.line.Window.{Window}
 use Rattle.moment_core.proofs.LineLaws.{ahead-ahead, seen-on, seen-zero}
-use Rattle.moment_core.proofs.Truths.{true-false}
 use Rattle.span_core.specs.Answers.{IsFound}
 use Rattle.span_core.specs.declared.answers.Answer.{Answer}
 use Rattle.span_core.specs.declared.answers.Answer.TheVariants as answers
@@ -39,7 +38,7 @@ begins_first f (suc m) e d =
       record {
         begins = ap f s ∙ d.differs ∙ ap not e;
         fresh = d.same m (omega arith) ∙ e;
-        none_before = λ k h t. absurd (true-false (f (k + 1)) t (d.same (k + 1) (omega arith) ∙ e));
+        none_before = λ k h t. absurd (both_ways (f (k + 1)) (d.same (k + 1) (omega arith) ∙ e) t);
       },
     )
 
@@ -114,7 +113,7 @@ found_past_run : (set : ℤ → Bool) (window : Dir → ℤ → Option Window) (
     (a : Answer) → set p ≡ true → IsNextChange set dir p x → IsCalendarPosition x
     → IsFoundPastRun set window dir x a → IsFoundPastRun set window dir p a
 found_past_run set window dir p x a e c near f = elim f.1 [
-  | inl member ↦ absurd (true-false (set x) member.0 (gap_at_change set dir p x e c))
+  | inl member ↦ absurd (both_ways (set x) (gap_at_change set dir p x e c) member.0)
   | inr same ↦
       let P : ℤ → Type 0 = λ z. IsFound set (window dir z) dir z a in
       (x, inl (e, c, near), subst P same.1 f.2)

@@ -1,6 +1,6 @@
 -- Each query has an answer, and no second one.
 use Rattle.std.proofs.Common.{◌≡◌, ◌⊎◌, inl, inr, ap, refl, sym, subst, ◌∙◌, arith, ℕ, ◌+◌, ℤ, Bool, true, false, Option, None}
-use Rattle.std.proofs.lemmas.Bool.{cases_order}
+use Rattle.std.proofs.lemmas.Bool.{cases_order, both_ways}
 use Rattle.std.proofs.lemmas.Int.{by_lt_z, ints}
 use Rattle.moment_core.specs.Line.{IsCalendarMoment, IsCalendarPosition, position_of}
 use Rattle.moment_core.specs.Sets.{ahead, seen, BeginsFirst, IsNextBeginning, IsNextChange, NoneBegins, StaysInRange, IsUpTo, range_end}
@@ -9,7 +9,6 @@ use Rattle.moment_core.specs.declared.line.Dir.TheVariants.{Fore, Back}
 use Rattle.moment_core.specs.declared.line.Pos.{Pos}
 use Rattle.moment_core.specs.declared.line.Window.{Window}
 use Rattle.moment_core.proofs.LineLaws.{one_change, position_in_range}
-use Rattle.moment_core.proofs.Truths.{true-false}
 use Rattle.moment_core.proofs.Order.{up_to_end, self_up_to}
 use Rattle.span_core.specs.Answers.{IsFound}
 use Rattle.span_core.specs.Laws.{AnswersAreUnique, SearchesAreAnswered}
@@ -44,10 +43,10 @@ module _ (some : SearchesAreAnswered) (exist : RunsExist) where
         | inl run ↦ elim (before_first dir p run.0 run.2.from) [
           | inl same ↦ let P : ℤ → Type 0 =
               λ z. IsFirstRun set dir p (range_end dir) z run.1 in (run.1, subst P (sym same) run.2)
-          | inr past ↦ absurd (true-false (set p) m (run.2.none_before p (self_up_to dir p) past))
+          | inr past ↦ absurd (both_ways (set p) (run.2.none_before p (self_up_to dir p) past) m)
         ]
         | inr none ↦
-            absurd (true-false (set p) m (none p (self_up_to dir p) (up_to_end dir p here)))
+            absurd (both_ways (set p) (none p (self_up_to dir p) (up_to_end dir p here)) m)
       ]
 
   run_by : (set : ℤ → Bool) (window : Dir → ℤ → Option Window) (dir : Dir) (near : ℤ)
@@ -141,8 +140,8 @@ one_first_beginning : (f : ℕ → Bool) (m n : ℕ) → BeginsFirst f m → Beg
 one_first_beginning f m n a b = elim (cases_order m n) [
   | inl same ↦ same
   | inr other ↦ elim other [
-    | inl below ↦ absurd (true-false (f m) (b.none_before m below a.begins) a.fresh)
-    | inr above ↦ absurd (true-false (f n) (a.none_before n above b.begins) b.fresh)
+    | inl below ↦ absurd (both_ways (f m) a.fresh (b.none_before m below a.begins))
+    | inr above ↦ absurd (both_ways (f n) b.fresh (a.none_before n above b.begins))
   ]
 ]
 
@@ -156,7 +155,7 @@ beginning_or_none : (set : ℤ → Bool) (dir : Dir) (p q : ℤ) → IsNextBegin
     → IsCalendarPosition q → NoneBegins set dir p → ⊥
 beginning_or_none set dir p q b near none =
     let P : ℤ → Type 0 = λ z. IsCalendarPosition z in
-    true-false (seen set dir p b.0) (none b.0 (subst P b.1 near) b.2.begins) b.2.fresh
+    both_ways (seen set dir p b.0) b.2.fresh (none b.0 (subst P b.1 near) b.2.begins)
 
 abbrev pos_at : ℤ → Pos
 pos_at z = record { 0 = z }
@@ -241,8 +240,8 @@ module _ (one : AnswersAreUnique) (unique : RunsAreUnique) where
   pub one_current : (set : ℤ → Bool) (window : Dir → ℤ → Option Window) (at : ℤ) (a b : Near)
       → IsCurrentRun set window at a → IsCurrentRun set window at b → a ≡ b
   one_current set window at a b (inl h) (inl k) = one_around set window (position_of at) a b h.1 k.1
-  one_current set window at a b (inl h) (inr k) = absurd (true-false (set (position_of at)) h.0 k.0)
-  one_current set window at a b (inr h) (inl k) = absurd (true-false (set (position_of at)) k.0 h.0)
+  one_current set window at a b (inl h) (inr k) = absurd (both_ways (set (position_of at)) k.0 h.0)
+  one_current set window at a b (inr h) (inl k) = absurd (both_ways (set (position_of at)) h.0 k.0)
   one_current set window at a b (inr h) (inr k) = one_next set window Back at a b h.1 k.1
 
   one_beside : (set : ℤ → Bool) (window : Dir → ℤ → Option Window) (at : ℤ) (a b : Near)
@@ -255,6 +254,6 @@ module _ (one : AnswersAreUnique) (unique : RunsAreUnique) where
   pub one_closest : (set : ℤ → Bool) (window : Dir → ℤ → Option Window) (at : ℤ) (a b : Near)
       → IsClosestRun set window at a → IsClosestRun set window at b → a ≡ b
   one_closest set window at a b (inl h) (inl k) = one_around set window (position_of at) a b h.1 k.1
-  one_closest set window at a b (inl h) (inr k) = absurd (true-false (set (position_of at)) h.0 k.0)
-  one_closest set window at a b (inr h) (inl k) = absurd (true-false (set (position_of at)) k.0 h.0)
+  one_closest set window at a b (inl h) (inr k) = absurd (both_ways (set (position_of at)) k.0 h.0)
+  one_closest set window at a b (inr h) (inl k) = absurd (both_ways (set (position_of at)) h.0 k.0)
   one_closest set window at a b (inr h) (inr k) = one_beside set window at a b h.1 k.1

@@ -1,8 +1,7 @@
 -- A query and a text have one reply.
 use Rattle.std.proofs.Common.{◌≡◌, ◌≢◌, ◌⊎◌, inl, inr, ℕ, ℤ, Bool, true, false, List, sym, ◌∙◌, ap, subst, refl, Option, Some, None, Result, Ok, Err, cond, option_map}
-use Rattle.std.proofs.lemmas.Bool.{cases_Bool}
+use Rattle.std.proofs.lemmas.Bool.{cases_Bool, both_ways}
 use Rattle.search_core.specs.Lawful.{AreLawful}
-use Rattle.moment_core.proofs.Truths.{true-false}
 use Rattle.span_core.specs.declared.answers.Test.TheVariants as tests
 use Rattle.expr_text.specs.Accepted.{IsRead}
 use Rattle.expr_text.specs.Fault.{Fault}
@@ -60,9 +59,9 @@ one_tested a b h (tested (tests.Budget s) is) d e = absurd (e refl)
 one_tested a b (tested tests.In is) (tested tests.In also) d e = refl
 one_tested a b (tested tests.Out is) (tested tests.Out also) d e = refl
 one_tested {t} {p} a b (tested tests.In is) (tested tests.Out also) d e =
-    absurd (true-false (is_member t p) is also)
+    absurd (both_ways (is_member t p) also is)
 one_tested {t} {p} a b (tested tests.Out is) (tested tests.In also) d e =
-    absurd (true-false (is_member t p) also is)
+    absurd (both_ways (is_member t p) is also)
 
 one_asked : NeighboursAreUnique → (t : Tree Meaning) (side : Neighbour) (kind : Kind)
     (clock : Clock) (at : ℤ) (budget : ℕ) (a b : Outcome) → IsAskedBy t side kind clock at budget a

@@ -1,5 +1,5 @@
 -- Replies from the first bytes of a text, their status, and ample budgets.
-use Rattle.std.proofs.Common.{◌≡◌, ◌≤◌, ◌<◌, ◌⊎◌, ℕ, ℤ, List, length, take, ◌∙◌, ap, subst, arith, inl, inr, Option, Some, None, Ok, Err, refl}
+use Rattle.std.proofs.Common.{◌≡◌, ◌≤◌, ◌<◌, ◌⊎◌, ℕ, ℤ, List, length, take, ◌∙◌, ap, subst, arith, inl, inr, Option, Some, None, Ok, Err, refl, take_all}
 use Rattle.std.proofs.lemmas.Bool.{cases_lt}
 use Rattle.std.proofs.lemmas.Grind.{common_steps}
 use Rattle.std.proofs.Common.{Result, Bool, true, false, cond}
@@ -48,9 +48,6 @@ use Rattle.span_core.specs.declared.answers.Test.TheVariants as tests
 use Rattle.walk_core.specs.Tokens.{window_token}
 use Rattle.query_reply.proofs.WalkLemmas.{Walks, walk_done, walk_never_stops, walk_not_refused, window_fits}
 
-take-short : (text : List ℕ) (n : ℕ) → length text ≤ n → take n text ≡ text
-take-short text n h = grind (arith, common_steps)
-
 length-front : (n : ℕ) (text : List ℕ) → n ≤ length text → length (take n text) ≡ n
 length-front n text h = grind (arith, common_steps)
 
@@ -72,7 +69,7 @@ read_whole : Reads → (text : List ℕ) (n : ℕ) (r : Result Trees Fault) → 
     → IsRead (take n text) r → IsRead text r
 read_whole reads text n r many h =
     elim (cases_lt (length text) n) [
-      | inl few ↦ subst (λ z. IsRead z r) (take-short text n (omega (arith, few))) h
+      | inl few ↦ subst (λ z. IsRead z r) (take_all n text (omega (arith, few))) h
       | inr more ↦ (let front : List ℕ = take n text in
           let full : length front ≡ n = length-front n text (omega (arith, more)) in
           let too_long = reads.long front (omega (arith, full, many)) in

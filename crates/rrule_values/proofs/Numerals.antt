@@ -7,10 +7,10 @@ use Rattle.std.specs.Prelude.{unsigned_abs}
 use Rattle.std.proofs.lemmas.Bool.{and_parts, and_right}
 use Rattle.std.proofs.lemmas.Bool.Decides.{nat_tests}
 use Rattle.std.proofs.lemmas.Fmt.{digits_decimal, digits_value-decimal, decimal_nonempty, length-decimal-le}
-use Rattle.std.proofs.lemmas.Int.{ints}
 use Rattle.moment_core.specs.Texts.{with_sign}
 use Rattle.rrule_values.specs.Numbers.{is_digits, digits_at, number_at}
 use Rattle.rrule_values.proofs.Digits.{own}
+use Rattle.moment_core.proofs.Signs.{minus_suc}
 
 pub decimal_digits : (n : ℕ) → n < 2 ^ 64 → list_all is_ascii_digit (decimal n) ≡ true
 decimal_digits n small = digits_decimal own n small
@@ -50,10 +50,7 @@ positive_back signed n small =
     unsigned_back signed (decimal n) (decimal_nonempty n (omega arith))
     (decimal_digits n (omega arith)) ∙ digits_back false n small
 
-negative : (n : ℕ) → with_sign true (suc n) ≡ negsuc n
-negative n = grind (arith, ints)
-
 pub number_back : (z : ℤ) → unsigned_abs z < 10 ^ 10 → number_at true (signed_decimal z) ≡ Some z
 unfolding number_at
 number_back (pos n) small = positive_back true n small
-number_back (negsuc n) small = digits_back true (suc n) small ∙ ap (λ (z : ℤ). Some z) (negative n)
+number_back (negsuc n) small = digits_back true (suc n) small ∙ ap (λ (z : ℤ). Some z) (minus_suc n)

@@ -1,9 +1,8 @@
 -- A rule without a fault meets the test of none.
 use Rattle.std.proofs.Common.{◌≡◌, ℕ, zero, suc, ◌<◌, Bool, true, false, not, List, [], ◌∷◌, length, get_or, Option, Some, None, Ok, refl, arith}
-use Rattle.std.specs.Prelude.{option_map, if◌then◌else◌}
+use Rattle.std.specs.Prelude.{option_map}
 use Rattle.std.specs.List.{find, list_all, list_any}
-use Rattle.std.specs.Option.{option_or}
-use Rattle.std.proofs.lemmas.Bool.{and_from, or_parts}
+use Rattle.std.proofs.lemmas.Bool.{and_from, or_parts, not-false}
 use Rattle.std.proofs.lemmas.List.Sums.{AllPass-from_list_all}
 use Rattle.rule_core.specs.declared.field.FieldRule.{FieldRule}
 use Rattle.rule_core.specs.declared.ical.IcalRule.{IcalRule}
@@ -16,14 +15,11 @@ use Rattle.rule_core.specs.FieldChecks.{check_of, counted, first_bad, first_mixe
 use Rattle.rule_core.specs.IcalChecks.{check_ical, first_bad_part, is_bad_part, mixes_of, ranged}
 use Rattle.rule_core.specs.Laws.{FieldIntervalFits, FieldKeysFit, FieldValuesFit, IcalIntervalFits, IcalPartsFit, IcalValuesFit}
 use Rattle.rule_core.specs.Parts.{part_of}
+use Rattle.moment_core.proofs.Options.{no_head, or_none}
 
 judged_ok : (fault : Option RuleFault) → judged fault ≡ Ok tt → fault ≡ None
 judged_ok None e = refl
 judged_ok (Some fault) e = absurd cc
-
-or_none : {X : Type 0} (a b : Option X) → option_or a b ≡ None → (a ≡ None) × (b ≡ None)
-or_none None b e = (refl, e)
-or_none (Some x) b e = absurd cc
 
 map_none : {X Y : Type 0} (f : X → Y) (a : Option X) → option_map f a ≡ None → a ≡ None
 map_none f None e = refl
@@ -32,15 +28,6 @@ map_none f (Some x) e = absurd cc
 where_none : (test : Bool) (fault : RuleFault) → fault_where test fault ≡ None → test ≡ false
 where_none true fault e = absurd cc
 where_none false fault e = refl
-
-not_false : (b : Bool) → not b ≡ false → b ≡ true
-not_false true e = refl
-not_false false e = absurd cc
-
-no_head : {X : Type 0} (b : Bool) (x : X) (rest : Option X) → (if b then Some x else rest) ≡ None
-    → (b ≡ false) × (rest ≡ None)
-no_head true x rest e = absurd cc
-no_head false x rest e = (refl, e)
 
 -- what isn't found fails at each place
 found_none : {X : Type 0} (p : X → Bool) (xs : List X) (k : ℕ) (d : X) → find p xs ≡ None
@@ -55,7 +42,7 @@ each_passes : {X : Type 0} (p : X → Bool) (xs : List X) → list_any (λ x. no
 each_passes p [] e = refl
 each_passes p (x ∷ xs) e =
     let both = or_parts (not (p x)) (list_any (λ y. not (p y)) xs) e in
-    and_from (p x) (list_all p xs) (not_false (p x) both.0) (each_passes p xs both.1)
+    and_from (p x) (list_all p xs) (not-false (p x) both.0) (each_passes p xs both.1)
 
 -- no test of a field rule's faults is met
 record NoFieldFault (r : FieldRule) : Type 0 where
@@ -71,7 +58,7 @@ no_fault r e =
     record {
       mixed = map_none (BadMix (part_of r.freq)) (first_mixed r) first.0;
       bad = map_none BadValue (first_bad r) third.0;
-      interval = not_false (is_interval r.interval) (where_none (not (is_interval r.interval))
+      interval = not-false (is_interval r.interval) (where_none (not (is_interval r.interval))
           BadInterval third.1);
     }
 
@@ -124,7 +111,7 @@ no_ical_fault r e =
       mixes = map_none (λ (mix : Bool × RuleFault). mix.1) (find (λ (mix : Bool × RuleFault). mix.0)
           (mixes_of r)) first.0;
       bad = map_none BadValue (first_bad_part r) second.0;
-      interval = not_false (is_interval r.interval) (where_none (not (is_interval r.interval))
+      interval = not-false (is_interval r.interval) (where_none (not (is_interval r.interval))
           BadInterval second.1);
     }
 

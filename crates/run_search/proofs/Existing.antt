@@ -6,7 +6,6 @@ use Rattle.moment_core.specs.Sets.{ahead, IsUpTo}
 use Rattle.moment_core.specs.declared.line.Dir.{Dir}
 use Rattle.moment_core.specs.declared.line.Dir.TheVariants.{Fore, Back}
 use Rattle.moment_core.proofs.Order.{self_up_to, trans_up_to, ahead_up_to, before_or_past, not_both_ways, one_place}
-use Rattle.moment_core.proofs.Truths.{true-false}
 use Rattle.span_core.specs.Answers.{IsFound}
 use Rattle.span_core.specs.Laws.{SearchesAreAnswered}
 use Rattle.span_core.specs.declared.answers.Answer.{Answer}
@@ -14,6 +13,7 @@ use Rattle.span_core.specs.declared.answers.Answer.TheVariants as answers
 use Rattle.run_search.specs.Laws.{RunsAreUnique, RunsExist}
 use Rattle.run_search.specs.Runs.{HasNoMember, IsFirstMember, IsFirstRun}
 use Rattle.run_search.proofs.Stretching.{ends_at_change, ends_with_end, first_at_change, none_if_same, same_if_change_past, same_if_stays}
+use Rattle.std.proofs.lemmas.Bool.{both_ways}
 
 abbrev one_before : Dir → ℤ → ℤ
 one_before Fore x = x -ℤ pos 1
@@ -97,7 +97,7 @@ not_later : (set : ℤ → Bool) (dir : Dir) (p end near far q : ℤ) → IsFirs
     → IsUpTo dir q p → set q ≡ true → IsUpTo dir q near
 not_later set dir p end near far q run from m = elim (before_or_past dir near q) [
   | inl h ↦ h
-  | inr h ↦ absurd (true-false (set q) m (run.none_before q from h))
+  | inr h ↦ absurd (both_ways (set q) (run.none_before q from h) m)
 ]
 
 -- and the last one isn't past another run's last one
@@ -113,7 +113,7 @@ not_further set dir p end near far first last a b same = elim (before_or_past di
         let on : IsUpTo dir (ahead dir far 1) first =
         trans_up_to dir first far (ahead dir far 1) (subst P same a.some) (ahead_up_to dir far
         1) in
-        absurd (true-false (set (ahead dir far 1)) (b.members (ahead dir far 1) on h) gap)
+        absurd (both_ways (set (ahead dir far 1)) gap (b.members (ahead dir far 1) on h))
   ]
 ]
 

@@ -1,5 +1,5 @@
 -- What the answers of searches say of the positions up to an end.
-use Rattle.std.proofs.Common.{◌≡◌, ◌⊎◌, inl, inr, ap, refl, sym, subst, ◌∙◌, arith, ℕ, ◌<◌, ◌≤◌, ℤ, Bool, true, false, not, Option, IsTrue, ◌↔◌}
+use Rattle.std.proofs.Common.{◌≡◌, ◌⊎◌, inl, inr, ap, refl, sym, subst, ◌∙◌, arith, ℕ, ◌≤◌, ℤ, Bool, true, false, not, Option, IsTrue, ◌↔◌}
 use Rattle.std.proofs.lemmas.Int.{ints}
 use Rattle.moment_core.specs.Line.{IsCalendarPosition}
 use Rattle.moment_core.specs.Sets.{ahead, IsNextChange, StaysInRange, IsUpTo, range_end}
@@ -7,7 +7,7 @@ use Rattle.moment_core.specs.declared.line.Dir.{Dir}
 use Rattle.moment_core.specs.declared.line.Dir.TheVariants.{Fore, Back}
 use Rattle.moment_core.specs.declared.line.Window.{Window}
 use Rattle.moment_core.proofs.LineLaws.{seen-zero}
-use Rattle.moment_core.proofs.Order.{before_or_past, fewer_steps, in_range-within, no_more_steps, not_both_ways, one_on_up_to, self_up_to, steps_to, trans_up_to, up_to_end}
+use Rattle.moment_core.proofs.Order.{before_or_past, fewer_steps, in_range-within, no_more_steps, not_both_ways, one_on_up_to, self_up_to, steps_to, trans_up_to, up_to_end, later_by_steps}
 use Rattle.span_core.specs.Answers.{IsFound, StopsAt}
 use Rattle.span_core.specs.declared.answers.Answer.TheVariants as answers
 use Rattle.span_core.specs.declared.answers.Why.{Why}
@@ -37,11 +37,6 @@ right_before : (dir : Dir) (p q r : ℤ) → ahead dir p 1 ≡ q → IsUpTo dir 
     → IsUpTo dir q (ahead dir r 1)
 right_before Fore p q r e h = omega (arith, ints)
 right_before Back p q r e h = omega (arith, ints)
-
-later_by_steps : (dir : Dir) (p q : ℤ) (n : ℕ) → q ≡ ahead dir p n → 0 < n
-    → IsUpTo dir q (ahead dir p 1)
-later_by_steps Fore p q n e h = omega (arith, ints)
-later_by_steps Back p q n e h = omega (arith, ints)
 
 back_by_one : (dir : Dir) (p q r : ℤ) → ahead dir q 1 ≡ r → IsUpTo dir r (ahead dir p 1)
     → IsUpTo dir q p

@@ -1,6 +1,5 @@
 -- The outcome of words over a text from its first bytes, and what was put of it.
 use Rattle.std.proofs.Common.{◌≡◌, ◌≢◌, ◌≤◌, ◌<◌, ◌⊎◌, [], ℕ, List, length, drop, sym, ◌∙◌, ap, subst, arith, inl, inr, lit<, Option, Some, None, IfSome, Ok, refl}
-use Rattle.std.proofs.lemmas.Grind.{common_steps}
 use Rattle.expr_text.specs.declared.fault.TheConstants.{LONGEST}
 use Rattle.outside_core.specs.declared.writes.Sink.{Ghosts as Sink}
 use Rattle.query_words.specs.Laws.{WordsAreReadOnce}
@@ -15,9 +14,7 @@ use Rattle.set_query.specs.Effects.{Answers, BreaksOff, IsFront, IsOutcomeOf}
 use Rattle.set_query.specs.Outcomes.{IsOutcome, asked, bad_words, words_refusal}
 use Rattle.set_query.specs.declared.reading.TheConstants.{ROOM}
 use Rattle.set_query.proofs.RangeLemmas.{asks_in_range}
-
-drop-short : (text : List ℕ) (n : ℕ) → length text ≤ n → drop n text ≡ []
-drop-short text n h = grind (arith, common_steps)
+use Rattle.std.proofs.lemmas.List.{drop_all}
 
 -- what is asked over the first bytes is asked over the text
 IsOutcomeOf-front : LongFrontsDecide → {entries : Entries} (words : List (List ℕ)) (query : Query)
@@ -64,7 +61,7 @@ read_out : AnsweredTextsAreShort → {entries : Entries} (words : List (List ℕ
 read_out short words None rest bytes o front is not = tt
 read_out short words (Some text) rest bytes o front is not =
     let few : length text ≤ LONGEST = rw is.told (outcome_short short is.as_asked not) in
-    let all : drop ROOM text ≡ [] = drop-short text ROOM (omega (arith, few)) in
+    let all : drop ROOM text ≡ [] = drop_all ROOM text (omega (arith, few)) in
     front.1 ∙ ap Some all
 
 module _ {K : Type 0} (sink : Sink K) (old new : K) (entries : Entries) (words : List (List ℕ))

@@ -1,5 +1,5 @@
 -- What a table tests is what the list means.
-use Rattle.std.proofs.Common.{◌≡◌, ℕ, ◌+◌, ◌<◌, ℤ, pos, negsuc, ◌+ℤ◌, Bool, true, false, not, ◌||◌, List, [], ◌∷◌, refl, ap, arith}
+use Rattle.std.proofs.Common.{◌≡◌, ℕ, ◌+◌, ◌<◌, ℤ, pos, negsuc, ◌+ℤ◌, Bool, true, false, not, ◌||◌, List, [], ◌∷◌, refl, ap, arith, sym}
 use Rattle.std.specs.Prelude.{neg_ℤ, int_lt, All}
 use Rattle.std.proofs.lemmas.List.Elements.{All-head, All-tail}
 use Rattle.std.specs.Int.{IsInRange}
@@ -12,10 +12,7 @@ use Rattle.rule_core.specs.Values.{is_given, is_listed, meant}
 use Rattle.sieve_core.specs.Bits.{is_in_signed, meets_signed}
 use Rattle.sieve_tables.specs.Lowered.{IsTableOf, lists}
 use Rattle.sieve_tables.specs.Masks.{IsPlain}
-
-or_false : (b : Bool) → b ≡ (b || false)
-or_false true = refl
-or_false false = refl
+use Rattle.std.proofs.Math.Bool.{or-false}
 
 not_below : (x : ℕ) → int_lt (pos x) (pos 0) ≡ false
 not_below x = grind (arith, ints)
@@ -31,7 +28,7 @@ same_back n v x within = grind (arith, ints)
 meant_signed : (n v : ℕ) (x : ℤ) → IsInRange 1 n v → int_eq (meant (n + 1) x) (pos v)
     ≡ (int_eq x (pos v) || int_eq x (neg_ℤ (pos (from_end n v))))
 meant_signed n v (pos x) within = rw (not_below x, not_back x (from_end n v) (omega arith))
-    (or_false (int_eq (pos x) (pos v)))
+    (sym (or-false (int_eq (pos x) (pos v))))
 meant_signed n v (negsuc x) within = same_back n v x within
 
 pub or_swap : (a b c d : Bool) → ((a || b) || (c || d)) ≡ ((a || c) || (b || d))

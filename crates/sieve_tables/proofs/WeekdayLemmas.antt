@@ -9,7 +9,6 @@ use Rattle.moment_core.specs.Calendar.{weekday_of, day_of_month}
 use Rattle.moment_core.specs.Units.{from_end, nth_of, month_len_of, year_len_of, day_of_year, is_nth as is_nth_item}
 use Rattle.moment_core.proofs.FloorLemmas.{floor_arith}
 use Rattle.moment_core.proofs.Lists.{any_same}
-use Rattle.moment_core.proofs.Truths.{or_assoc}
 use Rattle.rule_core.specs.declared.lists.DayItem.{DayItem}
 use Rattle.rule_core.specs.IcalChecks.{has_ordinal}
 use Rattle.rule_core.specs.IcalMembers.{is_day_item}
@@ -19,6 +18,7 @@ use Rattle.sieve_core.specs.Days.{is_nth, is_nth_weekday, meets_weekdays}
 use Rattle.sieve_tables.specs.Lowered.{IsDayTableOf}
 use Rattle.sieve_tables.proofs.Filled.{zero_bits}
 use Rattle.sieve_tables.proofs.TableLemmas.{or_swap}
+use Rattle.std.proofs.Math.Bool.{or_assoc}
 
 any_or : {X : Type 0} (p q : X → Bool) (xs : List X) → list_any (λ x. p x || q x) xs
     ≡ (list_any p xs || list_any q xs)

@@ -10,6 +10,7 @@ use Rattle.span_core.specs.declared.bounds.Bound.{Bound}
 use Rattle.span_core.specs.declared.bounds.Bound.TheVariants.{Closed, Open, Inf, Edge}
 use Rattle.span_core.specs.declared.stretch.Empty.{Empty}
 use Rattle.moment_core.proofs.Comparing.{int_le-below, int_le-false, int_le-true, le-int_le, lt-int_le}
+use Rattle.std.proofs.Math.Bool.{or_comm}
 
 -- where there is a first position, the positions from it on are those that a low bound reaches,
 -- else all are
@@ -134,10 +135,6 @@ joined a b c d q no_gap low high =
       ]
     ]
 
-swapped : (x y : Bool) → (x || y) ≡ true → (y || x) ≡ true
-swapped true y e = or_right y true refl
-swapped false y e = or_left y false e
-
 -- past a position of one of two spans one of them has begun, and before it one has not ended
 either_begun : (a b c d : Bound) (p q : ℤ) → p ≤ℤ q → (lies_between a b p || lies_between c d p)
     ≡ true → (reaches a q ≡ true) ⊎ (reaches c q ≡ true)
@@ -167,7 +164,8 @@ one_stretch a b c d no_gap none_back p q r pq qr in_p in_r =
         | inr y ↦ joined a b c d q no_gap x y
       ]
       | inr x ↦ elim unended [
-        | inl y ↦ swapped (lies_between c d q) (lies_between a b q) (joined c d a b q none_back x y)
+        | inl y ↦ or_comm (lies_between a b q) (lies_between c d q)
+            ∙ joined c d a b q none_back x y
         | inr y ↦ or_right (lies_between a b q) (lies_between c d q)
             (and_from (reaches c q) (ends_after d q) x y)
       ]
@@ -235,9 +233,9 @@ one_stretch_tells a b c d first other x y x_tells y_tells = (
       (not_from_false x
       (false_from_ne_true x (λ e. no_gap a b c d first other stretch (x_tells.0 e))))
       (not_from_false y (false_from_ne_true y (λ e. no_gap c d a b other first
-      (λ p q r h k in_p in_r. swapped (lies_between a b q) (lies_between c d q) (stretch p q r h k
-      (swapped (lies_between c d p) (lies_between a b p) in_p)
-      (swapped (lies_between c d r) (lies_between a b r) in_r)))
+      (λ p q r h k in_p in_r. or_comm (lies_between c d q) (lies_between a b q)
+      ∙ stretch p q r h k (or_comm (lies_between a b p) (lies_between c d p) ∙ in_p)
+      (or_comm (lies_between a b r) (lies_between c d r) ∙ in_r))
       (y_tells.0 e)))),
 )
 

@@ -1,25 +1,18 @@
 -- A text is cut at its first colon.
-use Rattle.std.proofs.Common.{◌≡◌, ℕ, suc, ◌+◌, Bool, true, false, not, List, [], ◌∷◌, ◌++◌, length, take, drop, Option, Some, None, IsSomeAnd, Bor, refl, ap, ◌∙◌, arith, length-append, append_assoc}
+use Rattle.std.proofs.Common.{◌≡◌, ℕ, ◌+◌, true, not, List, [], ◌∷◌, ◌++◌, length, take, drop, Option, Some, None, IsSomeAnd, Bor, refl, ap, ◌∙◌, arith, length-append, append_assoc, one-add}
 use Rattle.std.specs.List.{position_or_len}
-use Rattle.std.proofs.lemmas.Bool.{and_parts}
+use Rattle.std.proofs.lemmas.Bool.{and_parts, not-true}
 use Rattle.std.proofs.lemmas.Grind.{common_steps}
 use Rattle.std.proofs.lemmas.Str.Pattern.{split_once_first, IsSplitOnceResult}
 use Rattle.token_text.specs.Parts.{is_colon, lacks_colon}
 use Rattle.token_text.specs.Texts.{with_colon}
 
-not_true : (b : Bool) → not b ≡ true → b ≡ false
-not_true true e = absurd cc
-not_true false e = refl
-
-one_more : (n : ℕ) → 1 + n ≡ suc n
-one_more n = omega arith
-
 colon_at : (a b : List ℕ) → lacks_colon a ≡ true → position_or_len is_colon (a ++ 58 ∷ b) ≡ length a
 colon_at [] b lacks = refl
 colon_at (x ∷ a) b lacks =
     let parts = and_parts (not (is_colon x)) (lacks_colon a) lacks in
-    rw (not_true (is_colon x) parts.0) (ap (λ n. 1 + n) (colon_at a b parts.1)
-    ∙ one_more (length a))
+    rw (not-true (is_colon x) parts.0) (ap (λ n. 1 + n) (colon_at a b parts.1)
+    ∙ one-add (length a))
 
 pub cut_at : (a b text : List ℕ) (r : Option (Bor (List ℕ) × Bor (List ℕ))) → IsSplitOnceResult 58
     text r → lacks_colon a ≡ true

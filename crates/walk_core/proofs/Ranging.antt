@@ -1,12 +1,12 @@
 -- The moments of items lie in the calendar range, and so do the places of a step.
-use Rattle.std.proofs.Common.{◌≡◌, inl, inr, sym, subst, arith, ℕ, ◌<◌, ℤ, pos, ◌+ℤ◌, ◌≤ℤ◌, Bool}
+use Rattle.std.proofs.Common.{◌≡◌, inl, inr, sym, subst, arith, ℕ, ℤ, Bool}
 use Rattle.std.proofs.lemmas.Int.{ints}
-use Rattle.moment_core.specs.Line.{IsCalendarMoment, IsCalendarPosition, moment_of, position_of}
+use Rattle.moment_core.specs.Line.{IsCalendarPosition}
 use Rattle.moment_core.specs.Sets.{ahead, IsUpTo, range_begin}
 use Rattle.moment_core.specs.declared.line.Dir.{Dir}
 use Rattle.moment_core.specs.declared.line.Dir.TheVariants.{Fore, Back}
-use Rattle.moment_core.proofs.LineLaws.{halves}
-use Rattle.moment_core.proofs.Order.{one_on_up_to, self_up_to, trans_up_to}
+use Rattle.moment_core.proofs.LineLaws.{moment_in_range}
+use Rattle.moment_core.proofs.Order.{one_on_up_to, self_up_to, trans_up_to, later_by_steps}
 use Rattle.span_core.specs.Answers.{IsCalendarItem}
 use Rattle.span_core.specs.Bounds.{IsCalendarRun}
 use Rattle.span_core.specs.Tokens.{IsFit}
@@ -30,13 +30,6 @@ use Rattle.walk_core.specs.Walks.{IsNoStop}
 use Rattle.walk_core.proofs.Fitting.{place_from, run_in_range}
 use Rattle.walk_core.proofs.Order.{in_range-from}
 
-moment_in_range : (q : ℤ) → IsCalendarPosition q → IsCalendarMoment (moment_of q)
-moment_in_range q here =
-    let near = halves q in
-    let low : position_of (moment_of q) ≤ℤ q = near.0 in
-    let high : q ≤ℤ (position_of (moment_of q) +ℤ pos 1) = near.1 in
-    (omega (arith, ints), omega (arith, ints))
-
 item_in_range : ItemsAreInRange → (tree : Tree Meaning) (dir : Dir) (near far : ℤ)
     → IsCalendarPosition near → IsCalendarPosition far
     → IsCalendarRun (item_from (window_of tree) dir near far)
@@ -57,12 +50,6 @@ walk_in_range lie in_range tree budget t next (items.Done (whys.None w)) fit h =
 walk_in_range lie in_range tree budget t next (items.Done whys.Edge) fit h = tt
 walk_in_range lie in_range tree budget t next (items.Budget token) fit h = tt
 
--- the places of a step
-step_later : (dir : Dir) (p x : ℤ) (n : ℕ) → x ≡ ahead dir p n → 0 < n
-    → IsUpTo dir x (ahead dir p 1)
-step_later Fore p x n e h = omega (arith, ints)
-step_later Back p x n e h = omega (arith, ints)
-
 before_it : (dir : Dir) (p place x : ℤ) → IsUpTo dir x (ahead dir p 1) → ahead dir place 1 ≡ x
     → IsUpTo dir place p
 before_it Fore p place x h e = omega (arith, ints, e)
@@ -74,10 +61,10 @@ place_past set dir p place (inl e) =
     let P : ℤ → Type 0 = λ z. IsUpTo dir place z in
     subst P e (self_up_to dir place)
 place_past set dir p place (inr (x, c, here, inl e)) = before_it dir p place x
-    (step_later dir p x c.0 c.1 c.2.later) e
+    (later_by_steps dir p x c.0 c.1 c.2.later) e
 place_past set dir p place (inr (x, c, here, inr e)) =
     subst (λ z. IsUpTo dir z p) (sym e)
-    (one_on_up_to dir p x (step_later dir p x c.0 c.1 c.2.later))
+    (one_on_up_to dir p x (later_by_steps dir p x c.0 c.1 c.2.later))
 
 pub place_in_range : (set : ℤ → Bool) (t : Token) (dir : Dir) (place : ℤ) → IsFit t
     → PlacesOfStep set t dir place → IsCalendarPosition place

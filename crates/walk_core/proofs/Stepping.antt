@@ -1,5 +1,5 @@
 -- What a step answers, put together from the ends of runs and from stops.
-use Rattle.std.proofs.Common.{◌≡◌, inl, inr, ap, refl, sym, subst, ◌∙◌, arith, ℕ, zero, suc, ℤ, Bool, true, false, List, ◌∷◌, Option, Some, None, Result, Ok, Err, IfErr, IfOk, ◌==◌, if◌then◌else◌}
+use Rattle.std.proofs.Common.{◌≡◌, inl, inr, ap, refl, sym, subst, ◌∙◌, arith, ℕ, zero, suc, ℤ, Bool, true, false, List, ◌∷◌, Option, Some, None, ◌==◌, if◌then◌else◌}
 use Rattle.std.specs.Ordering.{int_eq}
 use Rattle.std.proofs.lemmas.Int.{ints}
 use Rattle.moment_core.specs.Sets.{ahead, IsUpTo, range_begin}
@@ -26,20 +26,9 @@ use Rattle.walk_core.specs.declared.steps.Found.{Found}
 use Rattle.walk_core.specs.declared.steps.Found.TheVariants as founds
 use Rattle.walk_core.proofs.Following.{first_then}
 use Rattle.moment_core.proofs.Order.{before_or_past, not_both_ways, one_on_up_to, one_place, self_up_to, trans_up_to}
-use Rattle.moment_core.proofs.Truths.{true-false}
 use Rattle.walk_core.proofs.Order.{one_on}
 use Rattle.walk_core.proofs.Resting.{first_run, items-past_gap, items-same, open_run, with_members, with_more_members}
-
--- a fact of an error or a value, and one that follows
-pub if_err : {P Q : Stop → Type 0} (r : Result Pos Stop) → ((s : Stop) → P s → Q s) → IfErr r P
-    → IfErr r Q
-if_err (Ok far) f h = tt
-if_err (Err s) f h = f s h
-
-pub if_ok : {P Q : Pos → Type 0} (r : Result Pos Stop) → ((far : Pos) → P far → Q far) → IfOk r P
-    → IfOk r Q
-if_ok (Ok far) f h = f far h
-if_ok (Err s) f h = tt
+use Rattle.std.proofs.lemmas.Bool.{both_ways}
 
 -- a stop from a place of the step
 pub stop_at : (tree : Tree Meaning) (t : Token) (place : ℤ) (budget : ℕ) (s : Stop)
@@ -119,7 +108,7 @@ pub gap_before : (set : ℤ → Bool) (dir : Dir) (place end near : ℤ) → set
     → set (ahead dir place 1) ≡ false
 gap_before set dir place end near gap first apart = elim (before_or_past dir near place) [
   | inl h ↦ absurd (let same : near ≡ place = one_place dir near place h first.from in
-      true-false (set place) (ap set (sym same) ∙ first.member) gap)
+      both_ways (set place) gap (ap set (sym same) ∙ first.member))
   | inr h ↦ elim (before_or_past dir near (ahead dir place 1)) [
     | inl k ↦ absurd (apart (one_place dir near (ahead dir place 1) k h))
     | inr k ↦ first.none_before (ahead dir place 1) (one_on dir place) k

@@ -1,5 +1,5 @@
 -- One call at either end of what is left.
-use Rattle.std.proofs.Common.{◌≡◌, ◌⊎◌, inl, inr, ap, refl, sym, subst, ◌∙◌, arith, ℕ, ◌+◌, ◌<◌, ℤ, pos, ◌+ℤ◌, ◌-ℤ◌, ◌≤ℤ◌, ◌<ℤ◌, negsuc, Bool, true, false, cond, List, [], ◌∷◌, ◌++◌, Option, None}
+use Rattle.std.proofs.Common.{◌≡◌, ◌⊎◌, inl, inr, ap, refl, sym, subst, ◌∙◌, arith, ℕ, ◌+◌, ◌<◌, ℤ, pos, ◌+ℤ◌, ◌-ℤ◌, ◌≤ℤ◌, ◌<ℤ◌, Bool, true, false, cond, List, [], ◌∷◌, ◌++◌, Option, None}
 use Rattle.std.specs.Int.{int_gap, int_max, int_min}
 use Rattle.std.proofs.lemmas.Int.{clamps, ints}
 use Rattle.moment_core.specs.Line.{IsCalendarPosition}
@@ -25,6 +25,7 @@ use Rattle.walk_core.specs.declared.steps.Found.{Found}
 use Rattle.walk_core.specs.declared.steps.Found.TheVariants as founds
 use Rattle.walk_core.proofs.Ending.{items_then_last, last_run}
 use Rattle.walk_core.proofs.Listing.{none_past}
+use Rattle.moment_core.proofs.Gaps.{gap-up}
 
 -- the token of a window with its ends in order
 abbrev token_of : Window → Dir → Token
@@ -43,17 +44,10 @@ most a b h = omega (arith, ints, clamps)
 not_most : (a b : ℤ) → a <ℤ b → int_max a b ≡ b
 not_most a b h = omega (arith, ints, clamps)
 
--- how far one position is above another
-gap_is : (a b : ℤ) → a ≤ℤ b → a +ℤ pos (int_gap a b) ≡ b
-gap_is (pos a) (pos b) h = omega (arith, ints)
-gap_is (pos a) (negsuc b) h = omega (arith, ints)
-gap_is (negsuc a) (pos b) h = omega (arith, ints)
-gap_is (negsuc a) (negsuc b) h = omega (arith, ints)
-
 shorter : (a b c d : ℤ) → a ≤ℤ b → c ≤ℤ d → (d -ℤ c) <ℤ (b -ℤ a) → int_gap c d < int_gap a b
 shorter a b c d h k less =
-    let one : a +ℤ pos (int_gap a b) ≡ b = gap_is a b h in
-    let other : c +ℤ pos (int_gap c d) ≡ d = gap_is c d k in
+    let one : a +ℤ pos (int_gap a b) ≡ b = gap-up a b h in
+    let other : c +ℤ pos (int_gap c d) ≡ d = gap-up c d k in
     omega (arith, ints, one, other, less)
 
 pub in_order : (w : Window) (dir : Dir) → w.lo.0 ≤ℤ w.hi.0 → window_token w dir ≡ token_of w dir

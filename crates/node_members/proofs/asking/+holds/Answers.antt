@@ -14,9 +14,10 @@ use Rattle.search_core.specs.Candidates.{is_candidate}
 use Rattle.search_core.specs.Due.{IsDueAt}
 use Rattle.node_members.specs.Looking.{IsBeside, candidate_of_either, in_either}
 use Rattle.lowered_tree.specs.Nodes.{meant_of_node}
-use Rattle.node_members.proofs.Looking.{Due-below, Due-numbered, during_in, during_inner, during_out, err_map, pairs_closed, pairs_in, pairs_inner, pairs_out}
+use Rattle.node_members.proofs.Looking.{Due-below, Due-numbered, during_in, during_inner, during_out, pairs_closed, pairs_in, pairs_inner, pairs_out}
 use Rattle.node_members.proofs.Rooms.{room_back, room_left, room_low, room_right}
 use Rattle.node_members.proofs.asking.+holds.Goals as goal
+use Rattle.std.proofs.lemmas.Result.{IfErr-weaker}
 
 pub ask-returns-in-Err-clause-due : goal.ask-returns-in-Err-clause-due
 ask-returns-in-Err-clause-due g t c =
@@ -89,7 +90,7 @@ holds_during-returns-in_err-ask-clause-due g t c =
     let above = c.back.invariant.above in
     let due : IfErr c.from_residual.result (λ s. IsDueAt a 2 c.args.budget s c.back.look.place.0) =
     search rules in
-    err_map c.from_residual.result (λ s. IsDueAt a 2 c.args.budget s c.back.look.place.0)
+    IfErr-weaker c.from_residual.result (λ s. IsDueAt a 2 c.args.budget s c.back.look.place.0)
     (λ s. IsDueAt (Unary (During c.args.seconds) a) 1 c.args.budget s c.args.p.0)
     (λ s. during_inner c.member_laws.ensures.during c.due_laws.ensures.during
     c.candidate_laws.ensures.places a c.args.seconds c.args.p.0 c.back.look c.args.budget s
@@ -185,7 +186,7 @@ holds_pairs-returns-in_err-ask-clause-due g t c =
     let b = meant_of_node c.args.closes.now in
     let due : IfErr c.from_residual.result (λ s. IsDueAt a 2 c.args.budget s c.back.look.place.0) =
     search rules in
-    err_map c.from_residual.result (λ s. IsDueAt a 2 c.args.budget s c.back.look.place.0)
+    IfErr-weaker c.from_residual.result (λ s. IsDueAt a 2 c.args.budget s c.back.look.place.0)
     (λ s. IsDueAt (Pairs a b) 1 c.args.budget s c.args.p.0)
     (λ s d. pairs_inner c.member_laws.ensures.pairs c.due_laws.ensures.pairs
     c.candidate_laws.ensures.places a b c.args.p.0 c.back.look c.args.budget s
@@ -230,7 +231,7 @@ holds_pairs-returns-in_err-ask_second-clause-due g t c =
     let b = meant_of_node c.args.closes.now in
     let due : IfErr c.from_residual-in_err-ask_second.result (λ s. IsDueAt b (2 + nodes_of a)
     c.args.budget s c.back.look.place.0) = search rules in
-    err_map c.from_residual-in_err-ask_second.result (λ s. IsDueAt b (2 + nodes_of a) c.args.budget
+    IfErr-weaker c.from_residual-in_err-ask_second.result (λ s. IsDueAt b (2 + nodes_of a) c.args.budget
     s c.back.look.place.0) (λ s. IsDueAt (Pairs a b) 1 c.args.budget s c.args.p.0)
     (λ s d. pairs_inner c.member_laws.ensures.pairs c.due_laws.ensures.pairs
     c.candidate_laws.ensures.places a b c.args.p.0 c.back.look c.args.budget s
@@ -305,6 +306,6 @@ holds_edge-returns-in_err-ask-clause-due g t c =
     let a = meant_of_node c.args.a.now in
     let p = c.args.p.0 in
     let due : IfErr c.from_residual.result (λ s. IsDueAt a 2 c.args.budget s p) = search rules in
-    err_map c.from_residual.result (λ s. IsDueAt a 2 c.args.budget s p)
+    IfErr-weaker c.from_residual.result (λ s. IsDueAt a 2 c.args.budget s p)
     (λ s. (r : ℤ) × IsBeside p r × IsDueAt a 2 c.args.budget s r)
     (λ s d. (p, (omega (arith, ints), omega (arith, ints)), d)) due

@@ -5,8 +5,9 @@ use Rattle.expr_tree.specs.Tree.{Tree}
 use Rattle.search_core.specs.Due.{IsDue}
 use Rattle.plan_core.specs.Plans.{meant_of_plan}
 use Rattle.run_search.specs.Places.{IsStopFrom}
-use Rattle.walk_core.proofs.Stepping.{if_err, open_stop_here, open_stop_of_node}
+use Rattle.walk_core.proofs.Stepping.{open_stop_here, open_stop_of_node}
 use Rattle.walk_core.proofs.steps.last_of_open.Goals as goal
+use Rattle.std.proofs.lemmas.Result.{IfErr-weaker}
 
 pub returns-in-Ok-true-clause-stop : goal.returns-in-Ok-true-clause-stop
 returns-in-Ok-true-clause-stop g c =
@@ -15,7 +16,7 @@ returns-in-Ok-true-clause-stop g c =
     c.args.t.place.0 c.args.t.end.0 c.args.budget s) in
     let member : is_member (meant_of_plan c.args.plan.now) c.args.t.place.0 ≡ true =
     sym c.in-Ok-true.ensures.value ∙ c.in-Ok-true.field-0-test in
-    if_err c.last_of_run.result
+    IfErr-weaker c.last_of_run.result _ _
     (λ s h. open_stop_here (meant_of_plan c.args.plan.now) c.args.t c.args.budget s member
     c.requires.within h)
     (subst P c.holds.ensures.same c.last_of_run.ensures.stop)

@@ -8,8 +8,9 @@ use Rattle.plan_core.specs.Plans.{meant_of_plan, members_of_plan}
 use Rattle.run_search.specs.Places.{IsStopFrom}
 use Rattle.run_search.specs.Runs.{IsFirstRun}
 use Rattle.walk_core.proofs.Order.{one_on}
-use Rattle.walk_core.proofs.Stepping.{apart_if_not, ends_here, gap_before, goes_on_past, if_err, if_ok, open_stop_of_node, open_stop_past, same_if_equal}
+use Rattle.walk_core.proofs.Stepping.{apart_if_not, ends_here, gap_before, goes_on_past, open_stop_of_node, open_stop_past, same_if_equal}
 use Rattle.walk_core.proofs.steps.last_past.Goals as goal
+use Rattle.std.proofs.lemmas.Result.{IfErr-weaker, IfOk-weaker}
 
 pub returns-then-eq-clause-stop : goal.returns-then-eq-clause-stop
 returns-then-eq-clause-stop g c =
@@ -19,7 +20,7 @@ returns-then-eq-clause-stop g c =
     let Q : ℤ → Type 0 = λ z. IsUpTo c.args.t.dir c.args.t.end.0 z in
     let same : c.in-At.first.0 ≡ c.args.next.0 = same_if_equal c.eq.result c.in-At.first.0
     c.args.next.0 c.eq.ensures c.if-eq.true in
-    if_err c.last_of_run.result
+    IfErr-weaker c.last_of_run.result _ _
     (λ s h. open_stop_past (meant_of_plan c.args.plan.now) c.args.t c.in-At.first.0 c.args.budget s
     (same ∙ c.requires.next)
     c.in-At.ensures.answer.0.member c.in-At.ensures.answer.1 (subst Q (sym same) c.requires.within)
@@ -33,7 +34,7 @@ returns-then-eq-clause-last g c =
     c.args.t.end.0 c.in-At.first.0 far.0) in
     let same : c.in-At.first.0 ≡ c.args.next.0 = same_if_equal c.eq.result c.in-At.first.0
     c.args.next.0 c.eq.ensures c.if-eq.true in
-    if_ok c.last_of_run.result
+    IfOk-weaker c.last_of_run.result _ _
     (λ far r. goes_on_past (members_of_plan c.args.plan.now) c.args.t.dir c.args.t.place.0
     c.in-At.first.0 c.args.t.end.0 far.0 (same ∙ c.requires.next) r)
     (subst P c.first_past_gap.ensures.same c.last_of_run.ensures.last)

@@ -1,4 +1,4 @@
-use Rattle.std.proofs.Common.{◌≡◌, ◌+◌, ◌-◌, ◌++◌, ℕ, List, take, drop, length, arith, sym, ◌∙◌, ap, min}
+use Rattle.std.proofs.Common.{◌≡◌, ◌+◌, ◌-◌, ◌++◌, ℕ, List, take, drop, length, arith, sym, ◌∙◌, ap, min, take_all}
 use Rattle.std.proofs.lemmas.List.{take-append-drop, drop-drop}
 use Rattle.std.proofs.lemmas.Grind.{common_steps}
 use Rattle.outside_core.proofs.memory.SureSource.give.Goals as goal
@@ -6,16 +6,13 @@ use Rattle.outside_core.proofs.memory.SureSource.give.Goals as goal
 front : (copied behind : List ℕ) (n : ℕ) → length copied ≡ n → take n (copied ++ behind) ≡ copied
 front copied behind n same = grind (arith, common_steps)
 
-whole : (xs : List ℕ) (at : ℕ) → take (length xs - at) (drop at xs) ≡ drop at xs
-whole xs at = grind (arith, common_steps)
-
 -- the first n bytes from `at` on, copied to the front of a buffer, and those behind them
 given : (xs read copied behind : List ℕ) (at n room : ℕ) → read ≡ xs → n
     ≡ min (length (take (length read - at) (drop at read))) room → copied
     ≡ take n (take (length read - at) (drop at read)) → drop at xs ≡ take n (copied ++ behind)
     ++ drop (at + n) xs
 given xs read copied behind at n room same count copy =
-    let from_read : copied ≡ take n (drop at read) = copy ∙ ap (take n) (whole read at) in
+    let from_read : copied ≡ take n (drop at read) = copy ∙ ap (take n) (take_all (length read - at) (drop at read) (grind (arith, common_steps))) in
     let size : length copied ≡ n = ap length copy ∙ grind (arith, common_steps) in
     let from_all : copied ≡ take n (drop at xs) = from_read ∙ ap (λ z. take n (drop at z)) same in
     sym (take-append-drop n (drop at xs))
