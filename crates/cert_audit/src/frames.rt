@@ -6,8 +6,8 @@ use crate::ready::Ready;
 use frame_core::Frame;
 use search_core::tree_frame_laws;
 
-/// From where on, and after how long, the positions of the tree repeat. None exactly where the
-/// least common period of two children is above `WIDTH`, or a child has no frame.
+/// From where on, and after how long, the positions of the tree repeat. None exactly where a rule
+/// of the tree has no frame, or the least common period of two children is above `WIDTH`.
 pub fn frame_of(r: &Ready) -> Option<Frame>
     ensures value { result ≡ frame_of_ready r.now }
     ensures period { HasPeriod result }

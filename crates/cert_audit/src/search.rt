@@ -1,7 +1,7 @@
 ghost use Rattle.std.specs.Prelude.{◌≡◌, ◌≤◌};
 ghost use Rattle.moment_core.specs.Line.{IsCalendarPosition};
 ghost use Rattle.span_core.specs.Answers.{end_of};
-ghost use Rattle.cert_audit.specs.Lowered.{members_of, window_of_ready};
+ghost use Rattle.cert_audit.specs.Lowered.{window_of_ready};
 ghost use Rattle.cert_audit.specs.Searches.{AnswersAt, unchanged};
 
 use crate::frames::frame_of;

@@ -3,13 +3,13 @@ use Rattle.std.proofs.Common.{◌≡◌, ℕ, zero, suc, ◌+◌, ◌-◌, ◌%�
 use Rattle.std.specs.Int.{IsInRange}
 use Rattle.std.proofs.lemmas.Bool.Decides.{nat_tests}
 use Rattle.jiff_core.proofs.SignedLemmas.{signed_arith, one_part}
-use Rattle.jiff_core.specs.Calendar.{is_leap_year, days_in_year, days_in_month, day_of_year, days_from_civil, day_count, weekday_number, IsYear, IsCivilDate, IsDate}
+use Rattle.jiff_core.specs.Calendar.{is_leap_year, days_in_year, days_in_month, days_from_civil, day_count, weekday_number, IsYear, IsDate}
 use Rattle.jiff_core.specs.Calendar as library
 use Rattle.jiff_core.specs.declared.civil.date.Date.{Date}
 use Rattle.jiff_core.specs.Date.{epoch_day, ordinal}
 use Rattle.jiff_core.proofs.CalendarLemmas.{days_from_civil-day_count}
 use Rattle.moment_core.specs.Calendar as calendar
-use Rattle.moment_core.specs.Calendar.{floor_mod, divides, is_leap, year_len, month_len, days_of_months, first_day, day_number, year_of, days_into_year, month_of, day_of_month, weekday_of}
+use Rattle.moment_core.specs.Calendar.{divides, is_leap, year_len, month_len, days_of_months, first_day, day_number, year_of, days_into_year, month_of, day_of_month, weekday_of}
 use Rattle.moment_core.proofs.YearLaws.{first_day-next}
 use Rattle.moment_core.proofs.DateLaws.{date-of_day_number, month_of-is}
 

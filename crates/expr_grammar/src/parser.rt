@@ -1,10 +1,10 @@
 ghost use Rattle.std.specs.Prelude.{◌≡◌, ◌<◌, ◌≤◌, ◌∷◌, ◌++◌, length, List, drop, true, false, IfOk, IfNone, IfSome, OnSome, Some, IsErrOf};
 ghost use Rattle.expr_tokens.specs.Plain.{plains};
-ghost use Rattle.expr_grammar.specs.Form.{Form, Forms, Listed, Span};
+ghost use Rattle.expr_grammar.specs.Form.{Span};
 ghost use Rattle.expr_grammar.specs.Syntax.{HasPlaces, KeepsPlaces, form_of, forms_of, places_of, all_places_of, span_places};
 ghost use Rattle.expr_grammar.specs.Moments.{IsNextMoment};
 ghost use Rattle.expr_grammar.specs.Grammar.{SpellNothing, Spells};
-ghost use Rattle.expr_grammar.specs.Parsing.{Gives, ReadsMoments, ReadsTree, deeper_at, operands_at, stands, moment_at, list_at, moments_at, moments_end_at, with_first, close_at, high_at, high_end_at, low_end_at, span_at, rrule_at, leaf_at, atom_at, expr_at, call_at, call_end_at, name_at, nested_at, operand_at, pairs_end_at, chain_at, program_end_at, program_at, second_at, unary_end_at};
+ghost use Rattle.expr_grammar.specs.Parsing.{Gives, ReadsMoments, ReadsTree, deeper_at, operands_at, stands, moment_at, list_at, moments_at, moments_end_at, close_at, high_at, high_end_at, low_end_at, span_at, rrule_at, leaf_at, atom_at, expr_at, call_at, call_end_at, name_at, nested_at, operand_at, pairs_end_at, program_end_at, program_at, second_at, unary_end_at};
 
 use crate::calls::{takes_expression, unary_named};
 use crate::fault::ParseFault;

@@ -23,7 +23,6 @@ use Rattle.rule_core.specs.declared.part.Part.{Part}
 use Rattle.rule_core.specs.declared.part.Part.TheVariants as parts
 use Rattle.expr_tokens.specs.Laws.{Lexes, goes_on}
 use Rattle.expr_tokens.specs.Names.{name_of}
-use Rattle.expr_tokens.specs.Plain.{Token}
 use Rattle.expr_tokens.specs.Plain as tokens
 use Rattle.expr_tokens.specs.declared.token.Word.{Word}
 use Rattle.expr_tokens.specs.declared.token.Word.TheVariants as words

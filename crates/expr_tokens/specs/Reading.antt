@@ -12,7 +12,7 @@ use Rattle.moment_core.specs.declared.joining.Op.TheVariants as operators
 use Rattle.expr_tokens.specs.declared.token.Word.{Word}
 use Rattle.expr_tokens.specs.declared.token.Token.{Token as Placed}
 use Rattle.expr_tokens.specs.declared.token.Token.TheVariants as placed
-use Rattle.expr_tokens.specs.Plain.{Token, plain, plains}
+use Rattle.expr_tokens.specs.Plain.{Token, plain}
 use Rattle.expr_tokens.specs.Plain as tokens
 use Rattle.expr_tokens.specs.Class.{holds, front_of, behind, passes_first}
 use Rattle.expr_tokens.specs.Names.{word_of}

@@ -1,4 +1,4 @@
-ghost use Rattle.std.specs.Prelude.{◌≡◌, ◌≤ℤ◌, ◌+ℤ◌, ℤ, pos, neg_ℤ, Some, None, Ok};
+ghost use Rattle.std.specs.Prelude.{◌≡◌, Some, None, Ok};
 ghost use Rattle.ical_rules.specs.Rules.{IsSettled, frame_of_ical, framed_as, framed_from_start, framed_to, start_of, with_count};
 ghost use Rattle.moment_core.specs.Line.{IsCalendarMoment};
 ghost use Rattle.rule_core.specs.IcalChecks.{check_ical};

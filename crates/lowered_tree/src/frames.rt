@@ -17,8 +17,8 @@ use moment_core::{HIGH, LOW, Pos, REACH, UnaryOp};
 use search_core::tree_frame_laws;
 use span_core::Span;
 
-/// From where on, and after how long, the positions of the tree repeat. None exactly where the
-/// least common period of two children is above `WIDTH`, or a child has no frame.
+/// From where on, and after how long, the positions of the tree repeat. None exactly where a rule
+/// of the tree has no frame, or the least common period of two children is above `WIDTH`.
 pub fn node_frame(node: &Node) -> Option<Frame>
     requires lawful { AreLawful (meant_of_node node.now) }
     requires reach { pos (reach_of (meant_of_node node.now)) ≤ℤ REACH }

@@ -3,7 +3,7 @@ use Rattle.std.proofs.Common.{◌≡◌, ℕ, ◌+◌, ◌*◌, ◌<◌, refl, a
 use Rattle.std.proofs.lemmas.Int.{by_lt_z}
 use Rattle.moment_core.specs.declared.line.TheConstants.{G}
 use Rattle.moment_core.specs.Calendar as calendar
-use Rattle.moment_core.specs.Calendar.{is_leap, month_len, first_day, day_number, year_of, month_of, day_of_month}
+use Rattle.moment_core.specs.Calendar.{is_leap, first_day, day_number, year_of, month_of, day_of_month}
 use Rattle.moment_core.specs.TimeOfDay.{day_of, hour_of, minute_of, second_of, second_of_day, seconds_of, IsCivil}
 use Rattle.moment_core.specs.Line.{IsCalendarMoment, IsWorkingMoment}
 use Rattle.moment_core.proofs.FloorLemmas.{floor_arith}

@@ -1,6 +1,6 @@
 //! Moment literals at the front of a text.
 
-ghost use Rattle.std.specs.Prelude.{◌≡◌, ◌<◌, length, IfSome};
+ghost use Rattle.std.specs.Prelude.{◌≡◌, ◌<◌, IfSome};
 ghost use Rattle.moment_core.specs.declared.line.Stamp.{Stamp};
 ghost use Rattle.moment_text.specs.Literal.{Names, shaped_front};
 ghost use Rattle.moment_text.specs.Parts.{Gives, GivesRest, two_at, behind, past, date_at, time_at, unsigned_at, literal_at};

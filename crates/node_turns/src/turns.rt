@@ -1,13 +1,13 @@
-ghost use Rattle.std.specs.Prelude.{◌≡◌, ℕ, ℤ, ◌+◌, ◌<◌, ◌≤◌, ◌^◌, ◌-ℤ◌, ◌≤ℤ◌, Bool, ◌||◌, int_le, unsigned_abs};
+ghost use Rattle.std.specs.Prelude.{◌≡◌, ℤ, ◌+◌, ◌<◌, ◌≤◌, ◌^◌, ◌-ℤ◌, ◌≤ℤ◌, Bool, ◌||◌, int_le, unsigned_abs};
 ghost use Rattle.std.specs.Ordering.{int_eq};
 ghost use Rattle.moment_core.specs.Line.{moment_of, position_of};
 ghost use Rattle.moment_core.specs.Sets.{moments_in};
 ghost use Rattle.moment_core.specs.declared.line.Dir.TheVariants.{Fore, Back};
 ghost use Rattle.moment_core.specs.declared.line.TheConstants.{LOW};
 ghost use Rattle.span_core.specs.Bounds.{IsGiven, ends_after, lies_between, reaches};
-ghost use Rattle.expr_tree.specs.Members.{is_member, lasts_at};
+ghost use Rattle.expr_tree.specs.Members.{is_member};
 ghost use Rattle.expr_tree.specs.Sorts.{reach_of};
-ghost use Rattle.expr_tree.specs.Sound.{HasMomentsAlone, IsSound};
+ghost use Rattle.expr_tree.specs.Sound.{IsSound};
 ghost use Rattle.expr_tree.specs.Tree.{Unary};
 ghost use Rattle.search_core.specs.LookingBack.{either};
 ghost use Rattle.search_core.specs.Candidates.{bounds_at, is_bound_at, is_candidate};
@@ -197,8 +197,8 @@ fn edge_up_to(dir: Dir, turn: Turn, place: Pos, end: Pos) -> Option<Turn>
     }
 }
 
-/// The nearest turn of a leaf of moments: where a member lies at the place or right before it in
-/// the direction, at the side of it that lies past the place, and else at the nearest candidate.
+/// The nearest turn of a leaf of moments: right past the place where that is a member, and else at
+/// the nearest candidate.
 fn leaf_turn<F: Leaf, L: Ledger>(
     leaf: &F,
     p: Pos,

@@ -1,5 +1,5 @@
 ghost use Rattle.std.specs.Prelude.{◌≡◌, ◌-ℤ◌, unsigned_abs};
-ghost use Rattle.query_core.specs.Neighbours.{closer_of, closer_run, is_later_nearer, moment_at};
+ghost use Rattle.query_core.specs.Neighbours.{closer_of, closer_run, moment_at};
 
 use moment_core::Moment;
 use span_core::{Bound, Near, Run};

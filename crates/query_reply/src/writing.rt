@@ -2,7 +2,6 @@
 
 ghost use Rattle.std.specs.Prelude.{◌<◌};
 ghost use Rattle.query_reply.specs.Effects.{IsWritten};
-ghost use Rattle.query_reply.specs.Report.{Outcome};
 
 use outside_core::{Put, Sink};
 

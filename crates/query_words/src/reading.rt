@@ -1,6 +1,6 @@
 //! The words read whole.
 
-ghost use Rattle.std.specs.Prelude.{◌≡◌, ◌<◌, ◌+◌, ◌^◌, ◌∷◌, List, ℕ, map, length};
+ghost use Rattle.std.specs.Prelude.{◌<◌, ◌+◌, ◌^◌, ◌∷◌, map, length};
 ghost use Rattle.std.specs.String.{string_bytes};
 ghost use Rattle.query_words.specs.declared.commands.Command.TheVariants.{Resume, Show, Walk};
 ghost use Rattle.query_words.specs.Commands.{name_of};

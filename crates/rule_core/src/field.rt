@@ -1,8 +1,6 @@
-ghost use Rattle.std.specs.Prelude.{◌≡◌, ◌≤◌, pos};
-ghost use Rattle.rule_core.specs.FieldChecks.{check_of, counted, has_days, has_hours, first_bad, first_mixed, has_minutes, has_seconds, has_weeks, is_bad, is_in_range, is_interval, is_mixed, is_yearly, may_give, most_days, values_of};
+ghost use Rattle.std.specs.Prelude.{◌≡◌};
+ghost use Rattle.rule_core.specs.FieldChecks.{check_of, counted, first_bad, first_mixed, is_bad, is_in_range, is_mixed, may_give, most_days, values_of};
 ghost use Rattle.rule_core.specs.Values.{is_given, is_within, is_signed};
-ghost use Rattle.std.specs.Option.{option_to_list};
-ghost use Rattle.std.specs.List.{list_any};
 
 use crate::lists::Signed;
 use crate::part::{Freq, Part, RuleFault};

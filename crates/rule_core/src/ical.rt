@@ -1,7 +1,7 @@
 ghost use Rattle.std.specs.Prelude.{◌≡◌};
 ghost use Rattle.rule_core.specs.IcalChecks.{check_ical, first_bad_part, has_ordinal, has_ordinals, is_bad_item, is_bad_part, is_by_given, is_daily, is_monthly, is_outside, is_outside_signed, is_until, is_weekly, mixes_of};
 ghost use Rattle.std.specs.List.{list_any};
-ghost use Rattle.rule_core.specs.FieldChecks.{is_interval, is_yearly};
+ghost use Rattle.rule_core.specs.FieldChecks.{is_yearly};
 ghost use Rattle.rule_core.specs.Values.{is_given, is_within, is_signed};
 
 use crate::faults::first_fault;

@@ -39,11 +39,7 @@ pub record IsFirstRun (set : ℤ → Bool) (dir : Dir) (p end near far : ℤ) : 
   pub within : IsUpTo dir end far
   pub ends : (far ≡ end) ⊎ (set (ahead dir far 1) ≡ false)
 
--- the bounds of a run that come first and last in the direction
-abbrev pub near_of : Dir → Run → Bound
-near_of Fore run = run.first
-near_of Back run = run.last
-
+-- the bound of a run that comes last in the direction
 abbrev pub far_of : Dir → Run → Bound
 far_of Fore run = run.last
 far_of Back run = run.first

@@ -54,7 +54,9 @@ fn words_refusal(fault: WordsFault) -> Refusal
 ///   position;
 /// - `refused rule mix` and the frequency and a key that it may not give, or `months weeks` where
 ///   both are given, `refused rule value` and the key of a value out of its range, or `refused rule
-///   interval`, for the first rule with a fault;
+///   interval`, for the first rule by fields with a fault;
+/// - `refused rrule` with `syntax`, with `repeated` and the part, or with `mix`, `value` or
+///   `interval` and the parts as above, for the first rule of RFC 5545 with a fault;
 /// - `refused sort` and what the sort lacks.
 ///
 /// Under `show` another text is answered by its printed form, with status 0.

@@ -1,10 +1,9 @@
-ghost use Rattle.std.specs.Prelude.{◌≡◌, ◌↔◌, ◌<◌, ◌≤◌, ℕ, ℤ, pos, ◌*ℤ◌, ◌+ℤ◌, true, false, IsTrue, IfSome, IfNone};
+ghost use Rattle.std.specs.Prelude.{◌≡◌, ◌↔◌, ◌<◌, ℤ, pos, ◌*ℤ◌, ◌+ℤ◌, true, false, IsTrue, IfSome, IfNone};
 ghost use Rattle.moment_core.specs.Line.{IsWorkingMoment};
-ghost use Rattle.moment_core.specs.Sets.{ahead, seen};
+ghost use Rattle.moment_core.specs.Sets.{ahead};
 ghost use Rattle.moment_core.specs.Steps.{IsNext, IsNextCandidate, IsNextStep, IsPrevious, NoCandidateLeft};
 ghost use Rattle.moment_core.specs.TimeOfDay.{day_of, second_of_day};
 ghost use Rattle.moment_core.specs.declared.line.Dir.TheVariants.{Fore, Back};
-ghost use Rattle.sieve_core.specs.Days.{meets_days};
 ghost use Rattle.sieve_core.specs.Members.{has, is_between, is_candidate, is_mark, is_midnight, meets_tests};
 ghost use Rattle.sieve_core.specs.Nearest.{IsNearest, IsStart, moment_in, IsNearestOfDay, steps_to_midnight};
 ghost use Rattle.sieve_core.specs.Sieves.{IsSieve};

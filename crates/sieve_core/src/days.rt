@@ -1,4 +1,4 @@
-ghost use Rattle.std.specs.Prelude.{◌≡◌, true, ◌≤◌, ◌+◌, ℕ, ℤ};
+ghost use Rattle.std.specs.Prelude.{◌≡◌, true, ◌+◌, ℕ, ℤ};
 ghost use Rattle.std.specs.Int.{IsInRange};
 ghost use Rattle.std.specs.List.{list_all};
 ghost use Rattle.sieve_core.specs.Bits.{is_zero};

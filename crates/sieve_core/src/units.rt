@@ -1,4 +1,4 @@
-ghost use Rattle.std.specs.Prelude.{◌≡◌, ◌↔◌, ◌<◌, IsTrue, ℕ, ◌≤◌, ◌≤ℤ◌, ◌-ℤ◌, ◌+ℤ◌, ℤ, pos, neg_ℤ};
+ghost use Rattle.std.specs.Prelude.{◌≡◌, ◌↔◌, ◌<◌, IsTrue, ◌≤◌, ◌≤ℤ◌, ◌-ℤ◌, ◌+ℤ◌, ℤ};
 ghost use Rattle.moment_core.specs.Calendar.{divides};
 ghost use Rattle.moment_core.specs.declared.line.TheConstants.{LOW, HIGH, REACH};
 ghost use Rattle.moment_core.specs.Line.{IsCalendarMoment, IsWorkingMoment};
@@ -6,7 +6,7 @@ ghost use Rattle.moment_core.specs.TimeOfDay.{day_of};
 ghost use Rattle.moment_core.specs.Units.{HasWeekday};
 ghost use Rattle.sieve_core.specs.Ranks.{block_end, is_of_days};
 ghost use Rattle.moment_core.specs.Units.{unit_of};
-ghost use Rattle.moment_core.specs.Calendar.{month_number, week_number, week_year_of, year_of};
+ghost use Rattle.moment_core.specs.Calendar.{month_number, week_number};
 
 use civil_core::fields;
 use moment_core::{Moment, Unit, Weekday};

@@ -1,9 +1,9 @@
-ghost use Rattle.std.specs.Prelude.{◌≡◌, ◌<◌, ◌≤◌, ◌^◌, ◌&&◌, ◌||◌, ◌==◌, ℕ, not, false, length, [], ◌∷◌, All};
+ghost use Rattle.std.specs.Prelude.{◌≡◌, ◌<◌, ◌^◌, ◌&&◌, ◌||◌, ◌==◌, ℕ, not, [], ◌∷◌, All};
 ghost use Rattle.std.specs.Int.{IsInRange};
 ghost use Rattle.std.specs.List.{list_any};
 ghost use Rattle.rule_core.specs.IcalChecks.{has_ordinal};
-ghost use Rattle.sieve_core.specs.Bits.{has_bit, is_zero};
-ghost use Rattle.sieve_tables.specs.Lowered.{IsDayEntry, IsDayTableOf, IsNthTableOf, has_nth, has_place, is_by_itself};
+ghost use Rattle.sieve_core.specs.Bits.{has_bit};
+ghost use Rattle.sieve_tables.specs.Lowered.{IsDayEntry, IsDayTableOf, IsNthTableOf, is_by_itself};
 
 use crate::masks::with_bit;
 use crate::tables::{place_of, set_bit};

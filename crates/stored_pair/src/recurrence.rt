@@ -6,7 +6,7 @@ use moment_core::{Moment, Step};
 /// Every member in the working range is a candidate. The moments given to `test`, `after` and
 /// `before` are any of the working range.
 pub trait Recurrence: Drop {
-    ghost use Rattle.std.specs.Prelude.{◌≡◌, ℤ, Bool, true, Option, IfSome};
+    ghost use Rattle.std.specs.Prelude.{◌≡◌, ℤ, Bool, Option, IfSome};
     ghost use Rattle.frame_core.specs.Frames.{IsPeriod, RepeatsIfFramed};
     ghost use Rattle.frame_core.specs.declared.frames.Frame.{Frame};
     ghost use Rattle.moment_core.specs.Line.{IsWorkingMoment};

@@ -10,7 +10,7 @@ ghost use Rattle.walk_core.specs.Items.{IsHonest};
 ghost use Rattle.walk_core.specs.Tokens.{token_at, token_past};
 ghost use Rattle.walk_core.specs.declared.steps.Found.TheVariants.{Given, Stopped, Done as Ended};
 
-use moment_core::{Dir, Pos, Steps};
+use moment_core::{Pos, Steps};
 use plan_core::Plan;
 use run_search::{Begun, first_of_run, first_past_gap, holds, item_from, last_of_run};
 use span_core::{Run, Stop, Token, Why, is_up_to, one_on};

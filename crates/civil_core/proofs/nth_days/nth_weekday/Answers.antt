@@ -6,7 +6,7 @@ use Rattle.moment_core.specs.declared.line.Moment.{Moment}
 use Rattle.civil_core.specs.Nths.{IsNthDay, IsNthMidnight}
 use Rattle.civil_core.proofs.NthDays.{AreOfWeekday, IsNthDay-at_place, IsYear-of_midnight, at_place, day-at_place, size-of_IsNthDay}
 use Rattle.civil_core.proofs.nth_days.nth_weekday.Goals as goal
-use Rattle.civil_core.proofs.nth_days.nth_weekday.Goals.{After-from_residual-in_err-place, After-moment}
+use Rattle.civil_core.proofs.nth_days.nth_weekday.Goals.{After-moment}
 
 pub returns-in_err-first-clause-some : goal.returns-in_err-first-clause-some
 returns-in_err-first-clause-some c =
