@@ -4,6 +4,9 @@ pub mod CountLemmas
 pub mod CycleLemmas
 pub mod KnownLemmas
 pub mod LeastLemmas
+pub mod MetLemmas
+pub mod MonthLemmas
 pub mod RankLemmas
 pub mod RuleLemmas
+pub mod SeekLemmas
 pub mod TimeLemmas

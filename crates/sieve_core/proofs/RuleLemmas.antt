@@ -16,7 +16,7 @@ pub meets_tests_by_time : (s : Sieve) (t : ℤ) → meets_tests s t
 unfolding meets_tests meets_time
 meets_tests_by_time s t = and_comm (meets_days s.days (day_of t)) (meets_time s (second_of_day t))
 
-divides-one : (z : ℤ) → divides 1 z ≡ true
+pub divides-one : (z : ℤ) → divides 1 z ≡ true
 divides-one (pos n) = grind (arith, nat_tests)
 divides-one (negsuc n) = grind (arith, nat_tests)
 

@@ -4,6 +4,7 @@ pub mod Days
 pub mod Known
 pub mod Laws
 pub mod Members
+pub mod Months
 pub mod Nearest
 pub mod Ranks
 pub mod Sieves

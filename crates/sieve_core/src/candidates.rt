@@ -45,7 +45,7 @@ fn at_second(t: Moment, second: usize) -> Moment
 
 impl Sieve {
     // One moment on, or where the sieve begins.
-    fn start(&self, dir: Dir, t: Moment) -> Moment
+    pub(crate) fn start(&self, dir: Dir, t: Moment) -> Moment
         requires { IsWorkingMoment t.0 }
         ensures { IsStart self.now dir t.0 result.0 }
     {
@@ -69,7 +69,7 @@ impl Sieve {
     }
 
     // Whether the moment is in the working range and from the first to the last one.
-    fn is_open(&self, t: Moment) -> bool
+    pub(crate) fn is_open(&self, t: Moment) -> bool
         ensures { IsTrue result ↔ (IsWorkingMoment t.0 × (is_between self.now t.0 ≡ true)) }
     {
         in_work(t) && self.is_between(t)

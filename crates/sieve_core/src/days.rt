@@ -22,7 +22,7 @@ fn parts_at(t: Moment, first: Weekday) -> CivilParts
 
 // Whether `v` of `n` days is the nth of its weekday, from the front or from the end, for an n of
 // the signed table.
-fn is_nth(words: &[u64; 2], n: usize, v: usize) -> bool
+pub(crate) fn is_nth(words: &[u64; 2], n: usize, v: usize) -> bool
     requires { IsInRange 1 n v }
     ensures { result ≡ is_nth words.now n v }
 {
@@ -30,7 +30,7 @@ fn is_nth(words: &[u64; 2], n: usize, v: usize) -> bool
 }
 
 // Whether no bit of any table is set.
-fn are_zero(tables: &[[u64; 2]; 7]) -> bool
+pub(crate) fn are_zero(tables: &[[u64; 2]; 7]) -> bool
     ensures { result ≡ list_all is_zero tables.now }
 {
     tables.iter().all(|words| is_zero(words))

@@ -1,0 +1,200 @@
+ghost use Rattle.std.specs.Prelude.{◌≡◌, ◌<◌, ◌≤◌, ◌≤ℤ◌, ◌<ℤ◌, neg_ℤ, ◌+◌, ◌-◌, pos, ◌+ℤ◌, ◌*ℤ◌, if◌then◌else◌};
+ghost use Rattle.std.specs.Int.{IsInRange};
+ghost use Rattle.moment_core.specs.Calendar.{divides, is_leap, month_len};
+ghost use Rattle.moment_core.specs.Line.{IsWorkingMoment};
+ghost use Rattle.moment_core.specs.Sets.{ahead};
+ghost use Rattle.moment_core.specs.TimeOfDay.{day_of};
+ghost use Rattle.sieve_core.specs.Months.{IsMonth, IsNearMonth, day_at};
+
+use crate::times::turn;
+use civil_core::fields;
+use moment_core::{Dir, Moment, Weekday};
+
+/// A month of the calendar.
+#[derive(Clone, Copy)]
+pub(crate) struct MonthPlace {
+    pub year: i64,
+    pub month: usize,
+    pub leap: bool,
+    /// The number of its first day.
+    pub first: i64,
+    /// The weekday of that day, from 1 for Monday.
+    pub weekday: usize,
+    pub len: usize,
+    /// How many days of the year come before it.
+    pub before: usize,
+}
+
+fn divides(n: u32, year: i64) -> bool
+    requires { 1 ≤ n }
+    ensures { result ≡ divides n year }
+{
+    year.rem_euclid(n as i64) == 0
+}
+
+#[tactic(auto, unfolding(moment_core::specs::Calendar::is_leap))]
+fn is_leap(year: i64) -> bool
+    ensures { result ≡ is_leap year }
+{
+    divides(4, year) && (!divides(100, year) || divides(400, year))
+}
+
+fn month_len(leap: bool, month: usize) -> usize
+    ensures value { result ≡ month_len leap month }
+    ensures within { IsInRange 28 31 result }
+{
+    if month == 2 {
+        if leap { 29 } else { 28 }
+    } else if month == 4 || month == 6 || month == 9 || month == 11 {
+        30
+    } else {
+        31
+    }
+}
+
+/// The month that holds a moment.
+pub(crate) fn month_at(t: Moment) -> MonthPlace
+    requires { IsWorkingMoment t.0 }
+    ensures month { IsMonth result }
+    ensures near { IsNearMonth result }
+    ensures low { result.first ≤ℤ day_of t.0 }
+    ensures high { day_of t.0 <ℤ (result.first +ℤ pos result.len) }
+{
+    let parts = fields(t, Weekday::new(1).unwrap());
+    let index = parts.day as usize - 1;
+    MonthPlace {
+        year: parts.year as i64,
+        month: parts.month as usize,
+        leap: parts.year_len == 366,
+        first: t.0.div_euclid(86_400) - index as i64,
+        weekday: (parts.weekday.number() as usize + 34 - index) % 7 + 1,
+        len: parts.month_len as usize,
+        before: parts.yearday as usize - parts.day as usize,
+    }
+}
+
+impl MonthPlace {
+    // The month after it.
+    fn later(&self) -> MonthPlace
+        requires month { IsMonth self.now }
+        requires near { IsNearMonth self.now }
+        ensures month { IsMonth result }
+        ensures first { result.first ≡ self.now.first +ℤ pos self.now.len }
+    {
+        let first = self.first + self.len as i64;
+        let weekday = (self.weekday + self.len + 6) % 7 + 1;
+        if self.month == 12 {
+            let year = self.year + 1;
+            MonthPlace {
+                year,
+                month: 1,
+                leap: is_leap(year),
+                first,
+                weekday,
+                len: 31,
+                before: 0,
+            }
+        } else {
+            let month = self.month + 1;
+            MonthPlace {
+                year: self.year,
+                month,
+                leap: self.leap,
+                first,
+                weekday,
+                len: month_len(self.leap, month),
+                before: self.before + self.len,
+            }
+        }
+    }
+
+    // The month before it.
+    fn earlier(&self) -> MonthPlace
+        requires month { IsMonth self.now }
+        requires near { IsNearMonth self.now }
+        ensures month { IsMonth result }
+        ensures first { result.first +ℤ pos result.len ≡ self.now.first }
+    {
+        if self.month == 1 {
+            let year = self.year - 1;
+            let leap = is_leap(year);
+            MonthPlace {
+                year,
+                month: 12,
+                leap,
+                first: self.first - 31,
+                weekday: (self.weekday + 3) % 7 + 1,
+                len: 31,
+                before: if leap { 335 } else { 334 },
+            }
+        } else {
+            let month = self.month - 1;
+            let len = month_len(self.leap, month);
+            MonthPlace {
+                year: self.year,
+                month,
+                leap: self.leap,
+                first: self.first - len as i64,
+                weekday: (self.weekday + 34 - len) % 7 + 1,
+                len,
+                before: self.before - len,
+            }
+        }
+    }
+
+    /// The next month in the direction.
+    pub(crate) fn next(&self, dir: Dir) -> MonthPlace
+        requires month { IsMonth self.now }
+        requires near { IsNearMonth self.now }
+        ensures month { IsMonth result }
+        ensures place { day_at result dir 0 ≡ ahead dir (day_at self.now dir (self.now.len - 1)) 1 }
+    {
+        match dir {
+            Dir::Fore => self.later(),
+            Dir::Back => self.earlier(),
+        }
+    }
+
+    /// Its number, counted from January of the year 0.
+    pub(crate) fn number(&self) -> i64
+        requires month { IsMonth self.now }
+        requires near { IsNearMonth self.now }
+        ensures value { result ≡ self.now.year *ℤ pos 12 +ℤ pos (self.now.month - 1) }
+        ensures low { neg_ℤ (pos 120_000) ≤ℤ result }
+        ensures high { result ≤ℤ pos 120_000 }
+    {
+        self.year * 12 + (self.month as i64 - 1)
+    }
+
+    /// The number of day i.
+    pub(crate) fn nth_day(&self, i: usize) -> i64
+        requires month { IsMonth self.now }
+        requires near { IsNearMonth self.now }
+        requires i { i < self.now.len }
+        ensures value { result ≡ self.now.first +ℤ pos i }
+        ensures low { neg_ℤ (pos 4_600_000) ≤ℤ result }
+        ensures high { result ≤ℤ pos 4_600_000 }
+    {
+        self.first + i as i64
+    }
+
+    /// Day i in the direction.
+    pub(crate) fn day(&self, dir: Dir, i: usize) -> i64
+        requires month { IsMonth self.now }
+        requires i { i < self.now.len }
+        requires low { neg_ℤ (pos 4_500_000) ≤ℤ self.now.first }
+        requires high { self.now.first ≤ℤ pos 4_500_000 }
+        ensures value { result ≡ day_at self.now dir i }
+        ensures low { neg_ℤ (pos 4_600_000) ≤ℤ result }
+        ensures high { result ≤ℤ pos 4_600_000 }
+    {
+        self.first + turn(dir, self.len, i) as i64
+    }
+
+    /// How many days its year has.
+    pub(crate) fn year_len(&self) -> usize
+        ensures { result ≡ (if self.now.leap then 366 else 365) }
+    {
+        if self.leap { 366 } else { 365 }
+    }
+}
