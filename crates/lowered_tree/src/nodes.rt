@@ -1,17 +1,22 @@
 ghost use Rattle.std.specs.Prelude.{◌≡◌, ◌<◌, ◌^◌, IfErr, IfOk};
 ghost use Rattle.expr_tree.specs.Sorts.{nodes_of};
-ghost use Rattle.expr_tree.specs.Tree.{Joined, Pairs, Unary, meant_of, tree_of};
+ghost use Rattle.expr_tree.specs.Lists.{meaning_of_list};
+ghost use Rattle.expr_tree.specs.Tree.{Ical, Joined, Pairs, Ruled, Unary, meant_of, tree_of};
 ghost use Rattle.expr_tree.specs.WellFormed.{IsWellFormed};
+ghost use Rattle.ical_rules.specs.Rules.{meaning_of_ical};
 ghost use Rattle.stored_pair.specs.Names.{entries_of};
 ghost use Rattle.lowered_tree.specs.Nodes.{meant_of_node};
 ghost use Rattle.lowered_tree.specs.Settling.{AreSettled, IsFaultOf};
+ghost use Rattle.lowered_tree.specs.Stamped.{AreCalendarMoments};
+ghost use Rattle.lowered_tree.specs.declared.faults.PlanFault.TheVariants.{Memory};
 
 use crate::faults::{PlanFault, SETTLE_LIMIT};
 use crate::moments::Moments;
-use expr_tree::Expr;
+use expr_tree::{Expr, Stamps};
 use field_rules::{FieldLeaf, lower_field};
 use ical_rules::{IcalLeaf, lower_ical, settle};
 use moment_core::{Clock, Op, UnaryOp};
+use rule_core::IcalRule;
 use span_core::Span;
 use std::alloc::{AllocError, Global};
 use stored_pair::{Book, Guarded};
@@ -66,16 +71,10 @@ impl Node {
     {
         match e {
             Expr::Empty => Ok(Node::Empty),
-            Expr::List(stamps) => {
-                let moments = Moments::in_order(alloc, stamps.items())?;
-                Ok(Node::List(moments))
-            }
+            Expr::List(stamps) => Node::lower_list(alloc, stamps),
             Expr::Span(span, low, high) => Ok(Node::Span(*span, *low, *high)),
             Expr::Field(rule) => Ok(Node::Field(lower_field(rule))),
-            Expr::Rrule(rule) => {
-                let settled = settle(rule, SETTLE_LIMIT)?;
-                Ok(Node::Ical(lower_ical(rule, settled)))
-            }
+            Expr::Rrule(rule) => Node::lower_rrule(rule),
             Expr::Union(a, b) => Node::lower_joined(alloc, Op::Union, a, b, book),
             Expr::Meet(a, b) => Node::lower_joined(alloc, Op::Meet, a, b, book),
             Expr::Minus(a, b) => Node::lower_joined(alloc, Op::Minus, a, b, book),
@@ -90,6 +89,29 @@ impl Node {
                 Node::lower_unary(alloc, UnaryOp::Shift(*seconds), a, book)
             }
         }
+    }
+
+    /// The list's moments, put in order.
+    fn lower_list(alloc: Global, stamps: &Stamps) -> Result<Node, PlanFault>
+        requires { AreCalendarMoments stamps.now }
+        ensures meant { IfOk result
+            (λ node. meant_of_node node ≡ Ruled (meaning_of_list stamps.now)) }
+        ensures fault { IfErr result (λ fault. fault ≡ Memory) }
+    {
+        let moments = Moments::in_order(alloc, stamps.items())?;
+        Ok(Node::List(moments))
+    }
+
+    /// The rule with its count settled, and so ready for searches.
+    fn lower_rrule(rule: &IcalRule) -> Result<Node, PlanFault>
+        requires { IsWellFormed (Ruled (Ical rule.now)) }
+        ensures meant { IfOk result
+            (λ node. meant_of_node node ≡ Ruled (meaning_of_ical rule.now)) }
+        ensures settled { IfOk result (λ node. AreSettled (Ruled (Ical rule.now))) }
+        ensures fault { IfErr result (IsFaultOf (Ruled (Ical rule.now))) }
+    {
+        let settled = settle(rule, SETTLE_LIMIT)?;
+        Ok(Node::Ical(lower_ical(rule, settled)))
     }
 
     /// What joins copies of two trees.

@@ -60,3 +60,11 @@ opened-requires-clause-ends t c =
     rw value (joined_below c.tree_frame_laws.ensures.period c.tree_frame_laws.ensures.moves a b
     law.0 law.1
     c.node_frame-in-Pairs.ensures.modest c.node_frame-in-Pairs-2.ensures.modest few near)
+
+pub returns-in-Joined-clause-value : goal.returns-in-Joined-clause-value
+returns-in-Joined-clause-value t c =
+    let a = meant_of_node c.deref.result.now in
+    rw (c.in-Joined.is, ← c.deref.ensures, ← c.deref-in-Joined.ensures)
+    (c.join_framed.ensures
+    ∙ ap (λ o. join_framed o c.node_frame-in-Joined.result) c.node_frame.ensures.value
+    ∙ ap (join_framed (frame_of_tree a)) c.node_frame-in-Joined.ensures.value)
