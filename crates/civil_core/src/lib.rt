@@ -14,6 +14,3 @@ mod weeks;
 pub use from_fields::moment;
 pub use nth_days::nth_weekday;
 pub use parts::{CivilParts, fields};
-
-#[cfg(test)]
-mod tests;

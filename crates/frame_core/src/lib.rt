@@ -4,8 +4,6 @@
 mod frames;
 mod laws;
 mod periods;
-#[cfg(test)]
-mod tests;
 
 pub use frames::{Frame, join, window};
 pub use laws::{frame_laws, period_laws, window_laws};

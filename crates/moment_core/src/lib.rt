@@ -24,6 +24,3 @@ pub use line::{
 };
 pub use units::Unit;
 pub use week::Weekday;
-
-#[cfg(test)]
-mod tests;

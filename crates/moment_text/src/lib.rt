@@ -16,6 +16,3 @@ mod writing;
 pub use laws::literal_laws;
 pub use reading::{read_moment, shaped_front};
 pub use writing::write_literal;
-
-#[cfg(test)]
-mod tests;

@@ -17,6 +17,3 @@ pub use memory::{MemSink, MemSource, SureSink, SureSource};
 pub use reads::{Got, Source};
 pub use standard::{StdSink, StdSource};
 pub use writes::{Put, Sink};
-
-#[cfg(test)]
-mod tests;

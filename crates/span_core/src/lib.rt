@@ -6,8 +6,6 @@ mod bounds;
 mod ends;
 mod laws;
 mod stretch;
-#[cfg(test)]
-mod tests;
 mod tokens;
 
 pub use answers::{Answer, Audited, Extreme, Item, Near, Stop, Test, Token, Total, Vacant, Why};

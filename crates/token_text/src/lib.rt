@@ -11,6 +11,3 @@ mod writing;
 pub use laws::token_laws;
 pub use reading::read_token;
 pub use writing::{LONGEST_TOKEN, TokenText, write_token};
-
-#[cfg(test)]
-mod tests;

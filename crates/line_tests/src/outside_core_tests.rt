@@ -1,6 +1,8 @@
 ghost use Rattle.std.specs.Prelude.{◌≤◌, IfOk};
 
-use crate::{Got, MemSink, MemSource, Put, Sink, Source, StdSink, StdSource, SureSink, SureSource};
+use outside_core::{
+    Got, MemSink, MemSource, Put, Sink, Source, StdSink, StdSource, SureSink, SureSource,
+};
 use std::io::{Error, ErrorKind, Read, Result as IoResult, Write};
 use std::test::Fail;
 

@@ -1,4 +1,4 @@
-use crate::{CivilParts, fields, nth_weekday};
+use civil_core::{CivilParts, fields, moment, nth_weekday};
 use moment_core::{Moment, Weekday, in_work};
 use std::test::Fail;
 
@@ -296,7 +296,7 @@ fn fields_and_moment_agree_with_another_calendar(rt: HostRuntime) -> Result<(), 
             weeks: weeks.2,
         };
         assert_eq!(rt; fields(t, first), want, "at {seconds}");
-        let back = crate::moment(date.0, date.1, date.2, time.0, time.1, time.2);
+        let back = moment(date.0, date.1, date.2, time.0, time.1, time.2);
         assert_eq!(rt; back, Some(t), "at {seconds}");
     }
     Ok(())
@@ -324,7 +324,7 @@ fn moment_refuses_what_names_no_moment_of_the_working_range(rt: HostRuntime) {
         (2_147_483_647, 1, 1, 0, 0, 0),
     ];
     for (year, month, day, hour, minute, second) in REFUSED {
-        let found = crate::moment(*year, *month, *day, *hour, *minute, *second);
+        let found = moment(*year, *month, *day, *hour, *minute, *second);
         assert!(rt; found.is_none(), "at {year} {month} {day}");
     }
 }

@@ -1,6 +1,6 @@
 ghost use Rattle.std.specs.Prelude.{◌≡◌, ◌<◌};
 
-use crate::*;
+use moment_core::{Clock, Moment, Pos, Stamp, Steps, Weekday, floor, in_range, in_work, of};
 use std::marker::Brand;
 use std::sync::ledger::{Blank, Ledger};
 

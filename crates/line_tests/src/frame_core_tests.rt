@@ -1,4 +1,4 @@
-use crate::{Frame, join, rule_period, window};
+use frame_core::{Frame, join, rule_period, window};
 use moment_core::{Dir, G, Pos, WIDTH, Window};
 
 #[test]

@@ -1,7 +1,7 @@
 ghost use Rattle.span_core.specs.Bounds.{IsGiven};
 
-use crate::{Bound, Empty, Run, Span, run_of};
 use moment_core::{Moment, Pos, in_range};
+use span_core::{Bound, Empty, Run, Span, run_of};
 use std::test::Fail;
 
 /// A span from the moment 0 to `high`, and one from `low` to the moment 20.
