@@ -1,9 +1,13 @@
+//! Queries over texts, by the lines that they are answered with.
+//!
+//! The files in rows/ at the top have these rows and many more, which the built program answers.
+//! Here are some of each kind, and those in which a read or a write fails.
+
 ghost use Rattle.std.specs.Prelude.{◌≡◌, ◌⊎◌, ◌<◌, Some, map};
 ghost use Rattle.std.specs.String.{string_bytes};
 ghost use Rattle.stored_pair.specs.Meanings.{nothing};
 ghost use Rattle.set_query.specs.Effects.{Answers};
 
-use crate::help::{HELP, VERSION, text_of};
 use crate::query::run;
 use moment_core::Steps;
 use outside_core::{Got, MemSink, MemSource, Sink, Source, SureSink, SureSource};
@@ -14,14 +18,39 @@ use std::sync::ledger::{Blank, Ledger};
 use std::test::Fail;
 use stored_pair::Book;
 
-mod looking_back;
-mod maker_texts;
-mod makers;
-mod neighbours;
-mod rfc_examples;
-mod rrules;
-mod rules;
-mod walks;
+/// What a query is answered with.
+#[derive(Clone, Copy)]
+struct Row<'a> {
+    words: &'a str,
+    text: &'a str,
+    status: u8,
+    /// Parted by ` / `.
+    lines: &'a str,
+}
+
+/// The row of a line `WORDS < TEXT -> STATUS LINE / LINE ..`, which has no status where it is 0.
+fn row_of<'a>(rt: &impl Abort, line: &'a str) -> Row<'a> {
+    let Some((words, rest)) = line.split_once(" < ") else {
+        panic!(rt; "no text in {line}");
+    };
+    let Some((text, answer)) = rest.split_once(" -> ") else {
+        panic!(rt; "no answer in {line}");
+    };
+    let (first, behind) = answer.split_once(" ").unwrap_or((answer, ""));
+    let (status, lines) = match first {
+        "2" => (2, behind),
+        "3" => (3, behind),
+        "4" => (4, behind),
+        "5" => (5, behind),
+        _ => (0, answer),
+    };
+    Row {
+        words,
+        text,
+        status,
+        lines,
+    }
+}
 
 fn words_of(alloc: Global, line: &str) -> Result<Vec<String>, AllocError> {
     let mut words = Vec::new(alloc);
@@ -29,6 +58,15 @@ fn words_of(alloc: Global, line: &str) -> Result<Vec<String>, AllocError> {
         words.push(String::from_str(alloc, word)?)?;
     }
     Ok(words)
+}
+
+/// The lines as they are written.
+fn written_of(alloc: Global, lines: &str) -> Result<String, AllocError> {
+    let mut written = lines.replace(alloc, " / ", "\n")?;
+    if !lines.is_empty() {
+        written.push_str("\n")?;
+    }
+    Ok(written)
 }
 
 // Without faults the status and the line are those of the words and the text, over a book without
@@ -80,274 +118,263 @@ fn answer_with_faults(
     run_with_faults::<Brand>(alloc, words, source, sink, Blank::new(1))
 }
 
-/// A sink that takes every write but these, counted from 0.
-fn sink_of(alloc: Global, failed: &[u64]) -> Result<MemSink, AllocError> {
-    let failed = Vec::from_slice(alloc, failed)?;
-    MemSink::new(alloc, 64, failed)
-}
-
-/// A source of the text in which these reads fail, counted from 0.
-fn source_of(alloc: Global, text: &[u8], failed: &[u64]) -> Result<MemSource, AllocError> {
-    let text = Vec::from_slice(alloc, text)?;
-    Ok(MemSource::new(text, Vec::from_slice(alloc, failed)?))
-}
-
-/// The query over the text ends with this status and writes this line.
-fn is_answered(
-    rt: &impl Abort,
-    alloc: Global,
-    (line, text): (&str, &[u8]),
-    status: u8,
-    written: &str,
-) -> Result<(), AllocError> {
-    let words = words_of(alloc, line)?;
-    let mut source = SureSource::new(Vec::from_slice(alloc, text)?);
+/// The row's query ends with its status and writes its lines.
+fn is_answered(rt: &impl Abort, alloc: Global, row: Row) -> Result<(), AllocError> {
+    let Row { words, text, .. } = row;
+    let mut source = SureSource::new(Vec::from_slice(alloc, text.as_bytes())?);
     let mut sink = SureSink::new(alloc, 256)?;
-    let answered = answer(alloc, &words, &mut source, &mut sink);
-    assert_eq!(rt; answered, status, "{text:?} at {line}");
-    assert!(rt; sink.taken() == written.as_bytes(), "{text:?} at {line}");
+    let status = answer(alloc, &words_of(alloc, words)?, &mut source, &mut sink);
+    let written = written_of(alloc, row.lines)?;
+    assert_eq!(rt; status, row.status, "{text} at {words}");
+    assert!(rt; sink.taken() == written.as_bytes(), "{text} at {words}");
     Ok(())
 }
 
-/// `show` over the text ends with this status and writes this line.
-fn shows(
-    rt: &impl Abort,
-    alloc: Global,
-    text: &[u8],
-    status: u8,
-    line: &str,
-) -> Result<(), AllocError> {
-    is_answered(rt, alloc, ("show", text), status, line)
-}
-
-/// The query over the text, with these reads and writes failed, ends with this status and writes this line.
-fn is_answered_with_faults(
-    rt: &impl Abort,
-    alloc: Global,
-    (line, text): (&str, &str),
-    (reads, writes): (&[u64], &[u64]),
-    (status, written): (u8, &str),
-) -> Result<(), AllocError> {
-    let words = words_of(alloc, line)?;
-    let mut source = source_of(alloc, text.as_bytes(), reads)?;
-    let mut sink = sink_of(alloc, writes)?;
-    let answered = answer_with_faults(alloc, &words, &mut source, &mut sink);
-    assert_eq!(rt; answered, status, "{text} at {line}");
-    assert!(rt; sink.taken() == written.as_bytes(), "{text} at {line}");
-    Ok(())
-}
-
-// python3's dates give the answers; years below 1 are moved by 12,000 years, which are 30 times 146,097 days.
-#[test]
-fn the_next_day_of_a_month_is_written_or_edge_or_a_stop_or_a_refusal(
-    rt: HostRuntime,
-) -> Result<(), Fail> {
-    const ROWS: &[(&str, &str, u8, &str)] = &[
-        (
-            "next at=2024-02-10T00:00:00",
-            "monthly(days=29)",
-            0,
-            "2024-02-29T00:00:00\n",
-        ),
-        (
-            "next at=2024-04-01T00:00:00",
-            "monthly(days=31)\n",
-            0,
-            "2024-05-31T00:00:00\n",
-        ),
-        (
-            "next at=2024-02-28T23:59:59",
-            "monthly(days=29)",
-            0,
-            "2024-02-29T00:00:00\n",
-        ),
-        // strictly after
-        (
-            "next at=2024-02-29T00:00:00",
-            "monthly(days=29)",
-            0,
-            "2024-03-29T00:00:00\n",
-        ),
-        // over centuries and the year 0
-        (
-            "next at=1900-02-01T00:00:00",
-            "monthly(days=29)",
-            0,
-            "1900-03-29T00:00:00\n",
-        ),
-        (
-            "next at=2000-02-01T00:00:00",
-            "monthly(days=29)",
-            0,
-            "2000-02-29T00:00:00\n",
-        ),
-        (
-            "next at=2100-02-01T00:00:00",
-            "monthly(days=29)",
-            0,
-            "2100-03-29T00:00:00\n",
-        ),
-        (
-            "next at=0000-02-01T00:00:00",
-            "monthly(days=29)",
-            0,
-            "0000-02-29T00:00:00\n",
-        ),
-        (
-            "next at=-0100-02-01T00:00:00",
-            "monthly(days=29)",
-            0,
-            "-0100-03-29T00:00:00\n",
-        ),
-        (
-            "next at=-0001-12-31T00:00:00",
-            "monthly(days=1)",
-            0,
-            "0000-01-01T00:00:00\n",
-        ),
-        // at the ends of the range
-        (
-            "next at=-9900-01-01T00:00:00",
-            "monthly(days=1)",
-            0,
-            "-9900-02-01T00:00:00\n",
-        ),
-        (
-            "next at=9900-12-30T23:59:59",
-            "monthly(days=31)",
-            0,
-            "9900-12-31T00:00:00\n",
-        ),
-        (
-            "next at=9900-12-31T00:00:00",
-            "monthly(days=31)",
-            0,
-            "edge\n",
-        ),
-        (
-            "next at=9900-12-01T12:00:00",
-            "monthly(days=1)",
-            0,
-            "edge\n",
-        ),
-        (
-            "next at=9901-01-01T00:00:00",
-            "monthly(days=1)",
-            2,
-            "refused words 1\n",
-        ),
-        // other texts
-        (
-            "next at=2024-01-01T00:00:00",
-            "monthly(days=0)",
-            2,
-            "refused rule value days\n",
-        ),
-        (
-            "next at=2024-01-01T00:00:00",
-            "monthly(days=32)",
-            2,
-            "refused rule value days\n",
-        ),
-        (
-            "next at=2024-01-01T00:00:00",
-            "monthly(days=01)",
-            0,
-            "2024-02-01T00:00:00\n",
-        ),
-        (
-            "next at=2024-01-01T00:00:00",
-            "\tmonthly( days = 29 )\n\n",
-            0,
-            "2024-01-29T00:00:00\n",
-        ),
-        ("next at=2024-01-01T00:00:00", "", 2, "refused syntax\n"),
-        // other words
-        (
-            "next at=2024-01-01T00:00:00Z",
-            "monthly(days=29)",
-            2,
-            "refused clock\n",
-        ),
-        (
-            "next at=2024-02-30T00:00:00",
-            "monthly(days=29)",
-            2,
-            "refused words 1\n",
-        ),
-        (
-            "at=2024-01-01T00:00:00 next",
-            "monthly(days=29)",
-            2,
-            "refused words 0\n",
-        ),
-        // each day is a candidate, and 27 are passed before the 29th
-        (
-            "next at=2024-01-01T00:00:00 budget=27",
-            "monthly(days=29)",
-            3,
-            "budget 3412800000 0\n",
-        ),
-        (
-            "next at=2024-01-01T00:00:00 budget=28",
-            "monthly(days=29)",
-            0,
-            "2024-01-29T00:00:00\n",
-        ),
-        ("next", "monthly(days=29)", 2, "refused words 1\n"),
-        ("", "monthly(days=29)", 2, "refused words 0\n"),
-        ("--help", "monthly(days=29)", 2, "refused words 0\n"),
-        ("min", "monthly(days=29)", 2, "refused unbuilt\n"),
-    ];
-    let alloc = rt.alloc();
-    for (line, text, status, written) in ROWS {
-        is_answered(&rt, alloc, (line, text.as_bytes()), *status, written)?;
+/// Each row is answered.
+fn are_answered(rt: &impl Abort, alloc: Global, rows: &str) -> Result<(), AllocError> {
+    assert!(rt; !rows.is_empty(), "no rows");
+    for line in rows.lines() {
+        is_answered(rt, alloc, row_of(rt, line))?;
     }
+    Ok(())
+}
+
+/// The read or the write that fails, counted from 0.
+#[derive(Clone, Copy)]
+enum Fault {
+    Read(u64),
+    Write(u64),
+}
+
+/// The fault that a line begins with, as `read N: ` or `write N: `, and the row behind it.
+fn fault_of<'a>(rt: &impl Abort, line: &'a str) -> (Fault, &'a str) {
+    let Some((fault, row)) = line.split_once(": ") else {
+        panic!(rt; "no fault in {line}");
+    };
+    let Some((step, place)) = fault.split_once(" ") else {
+        panic!(rt; "no place in {line}");
+    };
+    let Ok(place) = place.parse::<u64>() else {
+        panic!(rt; "no number in {line}");
+    };
+    match step {
+        "read" => (Fault::Read(place), row),
+        "write" => (Fault::Write(place), row),
+        _ => panic!(rt; "no step in {line}"),
+    }
+}
+
+/// A source of the text, and a sink, with the fault.
+fn faulty(alloc: Global, text: Vec<u8>, fault: Fault) -> Result<(MemSource, MemSink), AllocError> {
+    let mut reads = Vec::new(alloc);
+    let mut writes = Vec::new(alloc);
+    match fault {
+        Fault::Read(place) => reads.push(place)?,
+        Fault::Write(place) => writes.push(place)?,
+    }
+    let sink = MemSink::new(alloc, 64, writes)?;
+    Ok((MemSource::new(text, reads), sink))
+}
+
+/// With the fault the row's query ends with its status and writes its lines.
+fn is_answered_in_spite_of(
+    rt: &impl Abort,
+    alloc: Global,
+    fault: Fault,
+    row: Row,
+) -> Result<(), AllocError> {
+    let Row { words, text, .. } = row;
+    let (mut source, mut sink) = faulty(alloc, Vec::from_slice(alloc, text.as_bytes())?, fault)?;
+    let status = answer_with_faults(alloc, &words_of(alloc, words)?, &mut source, &mut sink);
+    let written = written_of(alloc, row.lines)?;
+    assert_eq!(rt; status, row.status, "{text} at {words}");
+    assert!(rt; sink.taken() == written.as_bytes(), "{text} at {words}");
+    Ok(())
+}
+
+/// Each row is answered with its fault.
+fn are_answered_with_faults(rt: &impl Abort, alloc: Global, rows: &str) -> Result<(), AllocError> {
+    assert!(rt; !rows.is_empty(), "no rows");
+    for line in rows.lines() {
+        let (fault, row) = fault_of(rt, line);
+        is_answered_in_spite_of(rt, alloc, fault, row_of(rt, row))?;
+    }
+    Ok(())
+}
+
+#[test]
+fn the_runs_round_a_moment_are_written(rt: HostRuntime) -> Result<(), Fail> {
+    const ROWS: &str = "\
+next at=2024-02-29T00:00:00 < monthly(days=29) -> 2024-03-29T00:00:00
+next at=2003-01-01T00:00:00 < !{2003-01-01T00:00:00} -> (2003-01-01T00:00:00 .. inf)
+next at=2023-12-31T00:00:00Z < {2024-01-01T00:00:00Z} -> 2024-01-01T00:00:00Z
+next at=2003-01-01T00:00:00 < empty() -> none 2003-01-01T00:00:00 .. 2003-01-01T00:00:01
+next at=9900-12-31T00:00:00 < monthly(days=31) -> edge
+next at=2024-01-01T00:00:00 budget=27 < monthly(days=29) -> 3 budget 3412800000 0
+previous at=2024-01-01T00:00:00 < weekly(days=1) -> 2023-12-25T00:00:00
+current at=2024-01-02T00:00:00 < weekly(days=1) -> 2024-01-01T00:00:00
+closest at=2003-01-01T00:00:00 < !{2003-01-01T00:00:00} -> (-inf .. 2003-01-01T00:00:00)
+contains at=2024-01-01T00:00:59 < during({2024-01-01T00:00:00}, 60) -> yes
+contains at=2024-01-01T00:01:00 < during({2024-01-01T00:00:00}, 60) -> no
+";
+    are_answered(&rt, rt.alloc(), ROWS)?;
+    Ok(())
+}
+
+#[test]
+fn walks_are_written_and_go_on_from_tokens(rt: HostRuntime) -> Result<(), Fail> {
+    const ROWS: &str = "\
+walk < !{2003-01-01T00:00:00} -> (-inf .. 2003-01-01T00:00:00) / (2003-01-01T00:00:00 .. inf) / end
+walk dir=back < pairs({2024-01-01T00:00:10}, {2024-01-01T00:00:00}) -> \
+    [2024-01-01T00:00:10 .. inf) / edge
+walk limit=1 < starts(span(start -9900-01-01T00:00:00)) -> \
+    -9900-01-01T00:00:00 / more fore:-749161958399:-:500556326398
+walk from=2024-01-01T00:00:00 to=2024-01-02T12:00:00 budget=1 < daily(hours=9) -> \
+    3 2024-01-01T09:00:00 / budget fore:3408307200:-:3408393600
+resume token=fore:3408307200:-:3408393600 < daily(hours=9) -> 2024-01-02T09:00:00 / end
+resume token=back:3408220800:3408249600:3408134400 < \
+    during(weekly(days=1,2,3,4,5 hours=9), 28800) -> \
+    [2024-01-01T09:00:00 .. 2024-01-01T16:00:00] / end
+";
+    are_answered(&rt, rt.alloc(), ROWS)?;
+    Ok(())
+}
+
+#[test]
+fn rules_are_met(rt: HostRuntime) -> Result<(), Fail> {
+    const ROWS: &str = "\
+next at=2024-01-01T00:00:00 < yearly(days=-366) -> 2028-01-01T00:00:00
+next at=2021-01-01T00:00:00 < yearly(weeks=53) -> 2026-12-28T00:00:00
+next at=2023-02-10T00:00:00 < monthly(days=30,-30 hours=6,18) -> 2023-03-02T06:00:00
+next at=2024-01-01T00:00:00 < weekly(days=3 interval=3 week_start=5) -> 2024-01-17T00:00:00
+next at=2024-02-28T09:30:00 < daily(hours=9,23 minutes=-30) -> 2024-02-28T23:30:00
+next at=2024-01-01T00:00:00 < hourly(minutes=15 interval=25) -> 2024-01-01T23:15:00
+next at=0000-02-28T23:59:59 < minutely(seconds=30) -> 0000-02-29T00:00:30
+next at=2024-01-01T00:00:00 < secondly(interval=86401) -> 2024-01-01T05:28:43
+next at=2024-01-01T00:00:00 < monthly(days=13) & weekly(days=5) -> 2024-09-13T00:00:00
+next at=2024-01-04T12:00:00 < rrule(\"FREQ=DAILY;UNTIL=20240105\", 2024-01-01T12:00:00) -> \
+    2024-01-05T12:00:00
+next at=1998-03-13T09:00:00 < \
+    rrule(\"FREQ=MONTHLY;BYDAY=FR;BYMONTHDAY=13\", 1997-09-02T09:00:00) -> 1998-11-13T09:00:00
+next at=1997-10-07T09:00:00 < \
+    rrule(\"FREQ=MONTHLY;COUNT=3;BYDAY=TU,WE,TH;BYSETPOS=3\", 1997-09-04T09:00:00) -> \
+    1997-11-06T09:00:00
+";
+    are_answered(&rt, rt.alloc(), ROWS)?;
+    Ok(())
+}
+
+#[test]
+fn spans_made_from_sets_are_written_or_looked_back_for(rt: HostRuntime) -> Result<(), Fail> {
+    const ROWS: &str = "\
+previous at=2024-01-02T06:00:00 < during(daily(hours=22), 28800) -> \
+    [2024-01-01T22:00:00 .. 2024-01-02T06:00:00)
+next at=2024-01-01T10:00:00 < ends(during(daily(hours=9), 28800)) -> 2024-01-01T17:00:00
+next at=2024-01-01T00:00:00 < shift(!{2024-01-01T00:00:00}, 5) -> (2024-01-01T00:00:05 .. inf)
+contains at=2024-01-02T01:00:00 budget=1 < during(daily(hours=9), 28800) -> 3 budget 3408307200 1
+contains at=2024-01-02T01:00:00 budget=2 < during(daily(hours=9), 28800) -> no
+";
+    are_answered(&rt, rt.alloc(), ROWS)?;
+    Ok(())
+}
+
+#[test]
+fn texts_are_shown_in_their_one_form(rt: HostRuntime) -> Result<(), Fail> {
+    const ROWS: &str = "\
+show < !(empty( )|{2024-01-01T00:00:00}) -> !(empty() | {2024-01-01T00:00:00})
+show < !daily()-secondly();hourly() -> !daily() - secondly() ; hourly()
+show < minutely(start=-0001-12-31T23:59:59 seconds=5) -> \
+    minutely(seconds=5 start=-0001-12-31T23:59:59)
+show < shift(empty(),-0060) -> shift(empty(), -60)
+show < rrule(\"FREQ=DAILY\", 2024-01-01T09:30:00) -> rrule(\"FREQ=DAILY\", 2024-01-01T09:30:00)
+show < \
+    rrule(\"FREQ=YEARLY;UNTIL=20251231;INTERVAL=2;WKST=SU;BYMONTH=12,1\", 2024-01-01T09:30:00) -> \
+    rrule(\"FREQ=YEARLY;UNTIL=20251231T235959;INTERVAL=2;BYMONTH=1,12;WKST=SU\", \
+    2024-01-01T09:30:00)
+";
+    are_answered(&rt, rt.alloc(), ROWS)?;
+    Ok(())
+}
+
+#[test]
+fn what_cannot_be_answered_is_refused(rt: HostRuntime) -> Result<(), Fail> {
+    const ROWS: &str = "\
+--help < monthly(days=29) -> 2 refused words 0
+next < monthly(days=29) -> 2 refused words 1
+load < empty() -> 2 refused unbuilt
+show < empty() @ -> 2 refused token 8
+show < event(\"fortnight\") -> 2 refused unbuilt
+show < daily(hours=24) | -> 2 refused syntax
+show < {2023-02-29T00:00:00} -> 2 refused moment 1
+show < monthly(days=32 week_start=8) -> 2 refused rule mix monthly week_start
+show < minutely(seconds=1,9999999999999) -> 2 refused rule value seconds
+show < daily(interval=0) -> 2 refused rule interval
+show < rrule(\"FREQ=DAILY;;\", 2024-01-01T00:00:00) -> 2 refused rrule syntax
+show < rrule(\"FREQ=DAILY;COUNT=1;COUNT=2\", 2024-01-01T00:00:00) -> 2 refused rrule repeated COUNT
+show < rrule(\"FREQ=DAILY;UNTIL=20240101;COUNT=3\", 2024-01-01T00:00:00) -> \
+    2 refused rrule mix UNTIL COUNT
+show < rrule(\"FREQ=DAILY;BYHOUR=24\", 2024-01-01T00:00:00) -> 2 refused rrule value BYHOUR
+show < rrule(\"FREQ=DAILY;INTERVAL=0\", 2024-01-01T00:00:00) -> 2 refused rrule interval
+show < {2024-01-01T00:00:00} | {2024-01-01T00:00:00Z} -> 2 refused sort clock
+show < during(span(), 60) -> 2 refused sort kind
+show < during(daily(), 0) -> 2 refused sort reach
+walk < daily() ; daily() -> 2 refused two
+previous at=2024-01-01T00:00:00Z < {2024-01-01T00:00:00} -> 2 refused clock
+";
+    are_answered(&rt, rt.alloc(), ROWS)?;
     Ok(())
 }
 
 #[test]
 fn a_failed_read_is_status_4_and_a_failed_write_status_5(rt: HostRuntime) -> Result<(), Fail> {
-    const NEXT: &str = "next at=2024-02-10T00:00:00";
-    const ROWS: &[(&str, &str, &[u64], &[u64], u8)] = &[
-        (NEXT, "monthly(days=29)", &[0], &[], 4),
-        (NEXT, "monthly(days=29)", &[], &[0], 5),
-        (NEXT, "empty()", &[0], &[], 4),
-        (NEXT, "empty()", &[], &[0], 5),
-        ("show", "empty()", &[0], &[], 4),
-        ("show", "empty()", &[], &[0], 5),
-        ("show", "(", &[], &[0], 5),
-    ];
-    let alloc = rt.alloc();
-    for (line, text, reads, writes, status) in ROWS {
-        is_answered_with_faults(&rt, alloc, (line, text), (reads, writes), (*status, ""))?;
-    }
+    const ROWS: &str = "\
+read 0: next at=2024-02-10T00:00:00 < monthly(days=29) -> 4
+read 0: next at=2024-02-10T00:00:00 < empty() -> 4
+read 0: show < empty() -> 4
+write 0: next at=2024-02-10T00:00:00 < monthly(days=29) -> 5
+write 0: next at=2024-02-10T00:00:00 < empty() -> 5
+write 0: show < empty() -> 5
+write 0: show < ( -> 5
+";
+    are_answered_with_faults(&rt, rt.alloc(), ROWS)?;
     Ok(())
 }
 
 // A second write would fail.
 #[test]
 fn each_line_goes_out_by_one_write(rt: HostRuntime) -> Result<(), Fail> {
-    const ROWS: &[(&str, &str, u8, &str)] = &[
-        (
-            "next at=2024-02-10T00:00:00",
-            "!{2024-02-20T00:00:00}",
-            0,
-            "(2024-02-20T00:00:00 .. inf)\n",
-        ),
-        ("show", "empty()|span()", 0, "empty() | span()\n"),
-        ("show", "empty() @", 2, "refused token 8\n"),
-        ("show x", "", 2, "refused words 1\n"),
-    ];
-    let alloc = rt.alloc();
-    for (line, text, status, written) in ROWS {
-        is_answered_with_faults(&rt, alloc, (line, text), (&[], &[1]), (*status, written))?;
-    }
+    const ROWS: &str = "\
+write 1: next at=2024-02-10T00:00:00 < !{2024-02-20T00:00:00} -> (2024-02-20T00:00:00 .. inf)
+write 1: show < empty()|span() -> empty() | span()
+write 1: show < empty() @ -> 2 refused token 8
+write 1: show x <  -> 2 refused words 1
+";
+    are_answered_with_faults(&rt, rt.alloc(), ROWS)?;
     Ok(())
 }
 
-/// `show` over so many spaces and a set, with this read failed, ends with this status; where all is read, one read more would
-/// fail, else what wasn't read is still there.
+// The text is read by two reads, and each line goes out by one write.
+#[test]
+fn a_walk_breaks_off_at_any_failed_read_or_write(rt: HostRuntime) -> Result<(), Fail> {
+    const ROWS: &str = "\
+read 0: walk from=2024-01-01T00:00:00 to=2024-01-03T00:00:00 < daily(hours=9) -> 4
+read 1: walk from=2024-01-01T00:00:00 to=2024-01-03T00:00:00 < daily(hours=9) -> 4
+read 2: walk from=2024-01-01T00:00:00 to=2024-01-03T00:00:00 < daily(hours=9) -> \
+    2024-01-01T09:00:00 / 2024-01-02T09:00:00 / end
+write 0: walk from=2024-01-01T00:00:00 to=2024-01-03T00:00:00 < daily(hours=9) -> 5
+write 1: walk from=2024-01-01T00:00:00 to=2024-01-03T00:00:00 < daily(hours=9) -> \
+    5 2024-01-01T09:00:00
+write 2: walk from=2024-01-01T00:00:00 to=2024-01-03T00:00:00 < daily(hours=9) -> \
+    5 2024-01-01T09:00:00 / 2024-01-02T09:00:00
+write 3: walk from=2024-01-01T00:00:00 to=2024-01-03T00:00:00 < daily(hours=9) -> \
+    2024-01-01T09:00:00 / 2024-01-02T09:00:00 / end
+";
+    are_answered_with_faults(&rt, rt.alloc(), ROWS)?;
+    Ok(())
+}
+
+/// `show` over so many spaces and a set, with this read failed, ends with this status; where all is
+/// read, one read more would fail, else what wasn't read is still there.
 fn leaves(
     rt: &impl Abort,
     alloc: Global,
@@ -355,11 +382,10 @@ fn leaves(
     status: u8,
     left: usize,
 ) -> Result<(), AllocError> {
-    let words = words_of(alloc, "show")?;
-    let text = repeated(alloc, b" ", spaces, b"empty()")?;
-    let mut source = source_of(alloc, &text, &[failed_read])?;
-    let mut sink = sink_of(alloc, &[])?;
-    let answered = answer_with_faults(alloc, &words, &mut source, &mut sink);
+    let mut text = vec![in alloc; b' '; spaces]?;
+    text.extend_from_slice(b"empty()")?;
+    let (mut source, mut sink) = faulty(alloc, text, Fault::Read(failed_read))?;
+    let answered = answer_with_faults(alloc, &words_of(alloc, "show")?, &mut source, &mut sink);
     assert_eq!(rt; answered, status, "after {spaces} spaces");
     let got = if left == 0 {
         Got::End
@@ -387,280 +413,6 @@ fn nothing_is_read_after_the_end_or_a_failed_read(rt: HostRuntime) -> Result<(),
     let alloc = rt.alloc();
     for (spaces, failed_read, status, left) in ROWS {
         leaves(&rt, alloc, (*spaces, *failed_read), *status, *left)?;
-    }
-    Ok(())
-}
-
-#[test]
-fn the_help_fits_a_screen_and_is_no_query(rt: HostRuntime) -> Result<(), Fail> {
-    const ROWS: &[(&str, Option<&str>)] = &[
-        ("--help", Some(HELP)),
-        ("--version", Some(VERSION)),
-        ("--help show", None),
-        ("show", None),
-        ("", None),
-    ];
-    let alloc = rt.alloc();
-    for (line, text) in ROWS {
-        assert_eq!(rt; text_of(&words_of(alloc, line)?), *text, "at {line}");
-    }
-    assert!(rt; HELP.lines().count() <= 40);
-    assert!(rt; HELP.lines().all(|line| line.len() <= 80));
-    Ok(())
-}
-
-/// The text that has the front so many times before the rest.
-fn repeated(alloc: Global, front: &[u8], times: usize, rest: &[u8]) -> Result<Vec<u8>, AllocError> {
-    let mut text = Vec::new(alloc);
-    for _ in 0..times {
-        text.extend_from_slice(front)?;
-    }
-    text.extend_from_slice(rest)?;
-    Ok(text)
-}
-
-#[test]
-fn texts_are_shown_or_refused(rt: HostRuntime) -> Result<(), Fail> {
-    const ROWS: &[(&str, u8, &str)] = &[
-        (
-            "!(empty( )|{2024-01-01T00:00:00})",
-            0,
-            "!(empty() | {2024-01-01T00:00:00})\n",
-        ),
-        ("empty();\nspan()\n", 0, "empty() ; span()\n"),
-        (
-            "{2024-01-01T00:00:00} | {2024-01-01T00:00:00Z}",
-            2,
-            "refused sort clock\n",
-        ),
-        ("empty() @", 2, "refused token 8\n"),
-        ("", 2, "refused syntax\n"),
-        ("daily( )", 0, "daily()\n"),
-        // the calls that aren't built
-        ("event(\"fortnight\")", 2, "refused unbuilt\n"),
-        ("zoned(empty(), \"UTC0\")", 2, "refused unbuilt\n"),
-        ("zoned_first(empty(), \"UTC0\")", 2, "refused unbuilt\n"),
-    ];
-    let alloc = rt.alloc();
-    for (text, status, line) in ROWS {
-        shows(&rt, alloc, text.as_bytes(), *status, line)?;
-    }
-    Ok(())
-}
-
-#[test]
-fn long_and_deep_texts_are_refused_past_their_limits(rt: HostRuntime) -> Result<(), Fail> {
-    const ROWS: &[(&str, usize, &str, u8, &str)] = &[
-        (" ", 65_529, "empty()", 0, "empty()\n"),
-        (" ", 65_537, "", 2, "refused long\n"),
-        (" ", 65_540, "", 2, "refused long\n"),
-        ("span()|", 9361, "span()", 2, "refused sort nodes\n"),
-        ("a", 65_536, "", 2, "refused syntax\n"),
-        ("(", 65_536, "", 2, "refused syntax\n"),
-        ("(", 129, "", 2, "refused syntax\n"),
-        ("!", 65_536, "", 2, "refused syntax\n"),
-        ("!", 129, "empty()", 2, "refused syntax\n"),
-        ("!", 128, "empty()", 2, "refused sort depth\n"),
-        (
-            "!",
-            127,
-            "empty()",
-            0,
-            "!!!!!!!!!!!!!!!!!!!!!!!!!!!!!!!!!!!!!!!!!!!!!!!!!!!!!!!!!!!!!!!!!!!!!!!!!!!!!!!!!!!!!!!!!!!!!!!!!!!!!!!!!!!!!!!!!!!!!!!!!!!!!!!empty()\n",
-        ),
-    ];
-    let alloc = rt.alloc();
-    for (front, times, rest, status, line) in ROWS {
-        let text = repeated(alloc, front.as_bytes(), *times, rest.as_bytes())?;
-        shows(&rt, alloc, &text, *status, line)?;
-    }
-    Ok(())
-}
-
-/// The text of the pieces one after the other.
-fn joined(alloc: Global, pieces: &[&str]) -> Result<String, AllocError> {
-    let mut text = String::new(alloc);
-    for piece in pieces {
-        text.push_str(piece)?;
-    }
-    Ok(text)
-}
-
-/// `next` at the moment over the text ends with this status and writes this line.
-fn nexts(
-    rt: &impl Abort,
-    alloc: Global,
-    at: &str,
-    text: &str,
-    status: u8,
-    line: &str,
-) -> Result<(), AllocError> {
-    let next = joined(alloc, &["next at=", at])?;
-    is_answered(rt, alloc, (&next, text.as_bytes()), status, line)
-}
-
-/// Unions in brackets, down so many levels.
-fn unions(alloc: Global, levels: u32) -> Result<String, AllocError> {
-    let mut text = String::from_str(alloc, "empty()")?;
-    for _ in 0..levels {
-        text = joined(alloc, &["(", &text, "|", &text, ")"])?;
-    }
-    Ok(text)
-}
-
-/// `next` over nine levels of unions after the signs ends with this status and writes this line.
-fn has_unions(
-    rt: &impl Abort,
-    alloc: Global,
-    signs: &str,
-    status: u8,
-    line: &str,
-) -> Result<(), AllocError> {
-    let text = joined(alloc, &[signs, &unions(alloc, 9)?])?;
-    let next = "next at=2024-01-01T00:00:00";
-    is_answered(rt, alloc, (next, text.as_bytes()), status, line)
-}
-
-// Nine levels of unions have 512 + 511 nodes, and each sign has one more.
-#[test]
-fn a_set_has_at_most_1024_nodes(rt: HostRuntime) -> Result<(), Fail> {
-    let alloc = rt.alloc();
-    let never = "none 2024-01-01T00:00:00 .. 2024-01-01T00:00:01\n";
-    has_unions(&rt, alloc, "!", 0, never)?;
-    has_unions(&rt, alloc, "!!", 2, "refused sort nodes\n")?;
-    Ok(())
-}
-
-#[test]
-fn a_byte_alone_is_no_token_or_no_set(rt: HostRuntime) -> Result<(), Fail> {
-    let alloc = rt.alloc();
-    for b in 0..=255 {
-        let line = match b {
-            b'(' | b')' | b'{' | b'}' | b',' | b';' | b'=' | b'|' | b'&' | b'-' | b'!' => {
-                "refused syntax\n"
-            }
-            b'a'..=b'z' | b'0'..=b'9' => "refused syntax\n",
-            b' ' | b'\t' | b'\n' | b'\r' => "refused syntax\n",
-            _ => "refused token 0\n",
-        };
-        shows(&rt, alloc, &[b], 2, line)?;
-    }
-    Ok(())
-}
-
-#[test]
-fn numbers_and_moments_are_read_up_to_their_limits(rt: HostRuntime) -> Result<(), Fail> {
-    const ROWS: &[(&str, &str)] = &[
-        ("9999999999999", "refused syntax\n"),
-        ("99999999999999", "refused token 0\n"),
-        ("empty() -9999999999999", "refused syntax\n"),
-        ("empty() -99999999999999", "refused token 8\n"),
-        ("empty() - 99999999999999", "refused token 10\n"),
-        ("empty()-5", "refused syntax\n"),
-        ("{2024-02-30T00:00:00}", "refused moment 1\n"),
-        ("{2023-02-29T00:00:00}", "refused moment 1\n"),
-        ("{2024-01-01T24:00:00}", "refused moment 1\n"),
-        ("{2016-12-31T23:59:60Z}", "refused moment 1\n"),
-        ("{-0000-01-01T00:00:00}", "refused moment 1\n"),
-        ("{-9901-12-31T23:59:59}", "refused moment 1\n"),
-        ("{ 9901-01-01T00:00:00}", "refused moment 2\n"),
-        (
-            "{2024-02-30T00:00:00, 2024-02-31T00:00:00}",
-            "refused moment 1\n",
-        ),
-        (
-            "span(start 2024-01-02T00:00:00, end 2024-01-01T00:00:00)",
-            "refused moment 0\n",
-        ),
-        ("{2024-01-01T00:00:0}", "refused token 11\n"),
-        ("{2024-1-1T00:00:00}", "refused token 9\n"),
-        ("{2024-01-01t00:00:00}", "refused token 14\n"),
-        ("{}", "refused syntax\n"),
-        (
-            "span(end 2024-01-02T00:00:00, start 2024-01-01T00:00:00)",
-            "refused syntax\n",
-        ),
-        ("empty() ; empty() ; empty()", "refused syntax\n"),
-    ];
-    let alloc = rt.alloc();
-    for (text, line) in ROWS {
-        shows(&rt, alloc, text.as_bytes(), 2, line)?;
-    }
-    Ok(())
-}
-
-#[test]
-fn strings_have_at_most_1024_bytes(rt: HostRuntime) -> Result<(), Fail> {
-    const ROWS: &[(usize, &str)] = &[(1024, "refused syntax\n"), (1025, "refused token 0\n")];
-    let alloc = rt.alloc();
-    for (length, line) in ROWS {
-        let mut text = repeated(alloc, b"a", *length, b"\"")?;
-        text.insert(0, b'"')?;
-        shows(&rt, alloc, &text, 2, line)?;
-    }
-    Ok(())
-}
-
-// The stop is at the first candidate, 946,771,200 seconds after 1970-01-01 by python3, at twice as
-// many positions.
-#[test]
-fn the_next_run_of_a_set_is_written(rt: HostRuntime) -> Result<(), Fail> {
-    const ROWS: &[(&str, &str, u8, &str)] = &[
-        (
-            "next at=2023-12-31T00:00:00",
-            "{2024-01-01T00:00:00}",
-            0,
-            "2024-01-01T00:00:00\n",
-        ),
-        (
-            "next at=2003-01-01T00:00:00",
-            "!{2003-01-01T00:00:00}",
-            0,
-            "(2003-01-01T00:00:00 .. inf)\n",
-        ),
-        (
-            "next at=2023-06-01T00:00:00",
-            "span(start 2024-01-01T00:00:00, before 2024-01-02T00:00:00) | span(start 2024-01-02T00:00:00, end 2024-01-03T00:00:00)",
-            0,
-            "[2024-01-01T00:00:00 .. 2024-01-03T00:00:00]\n",
-        ),
-        (
-            "next at=2003-01-01T00:00:00",
-            "empty()",
-            0,
-            "none 2003-01-01T00:00:00 .. 2003-01-01T00:00:01\n",
-        ),
-        ("next at=9900-12-31T23:59:59", "empty()", 0, "edge\n"),
-        // the clock of the moment
-        (
-            "next at=2023-12-31T00:00:00Z",
-            "{2024-01-01T00:00:00Z}",
-            0,
-            "2024-01-01T00:00:00Z\n",
-        ),
-        (
-            "next at=2024-01-01T00:00:00Z",
-            "{2024-01-01T00:00:00}",
-            2,
-            "refused clock\n",
-        ),
-        (
-            "next at=2023-12-31T00:00:00",
-            "{2024-01-01T00:00:00} ; empty()",
-            2,
-            "refused two\n",
-        ),
-        // a search that passes a candidate of each list
-        (
-            "next at=2000-01-01T00:00:00 budget=1",
-            "{2000-01-02T00:00:00} - {2000-01-02T00:00:00}",
-            3,
-            "budget 1893542400 0\n",
-        ),
-    ];
-    let alloc = rt.alloc();
-    for (line, text, status, written) in ROWS {
-        is_answered(&rt, alloc, (line, text.as_bytes()), *status, written)?;
     }
     Ok(())
 }
