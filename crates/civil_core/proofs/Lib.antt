@@ -1,4 +1,5 @@
 pub mod LibraryDates
 pub mod LibraryWeeks
+pub mod MonthLemmas
 pub mod NthDays
 pub mod WorkingDays

@@ -1,2 +1,3 @@
 pub mod Days
+pub mod Months
 pub mod Nths

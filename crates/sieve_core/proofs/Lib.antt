@@ -4,8 +4,7 @@ pub mod CountLemmas
 pub mod CycleLemmas
 pub mod KnownLemmas
 pub mod LeastLemmas
-pub mod MetLemmas
-pub mod MonthLemmas
+pub mod MomentLemmas
 pub mod RankLemmas
 pub mod RuleLemmas
 pub mod SeekLemmas

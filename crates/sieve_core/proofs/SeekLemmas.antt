@@ -14,15 +14,16 @@ use Rattle.moment_core.specs.declared.line.Dir.{Dir}
 use Rattle.moment_core.specs.declared.line.Dir.TheVariants.{Fore, Back}
 use Rattle.moment_core.specs.declared.units.Unit.{Unit as TimeUnit}
 use Rattle.moment_core.specs.declared.units.Unit.TheVariants.{Year, WeekYear, Month, Week, Day, Hour, Minute, Second}
-use Rattle.sieve_core.proofs.MonthLemmas.{day-in}
+use Rattle.civil_core.proofs.MonthLemmas.{day-in}
 use Rattle.sieve_core.proofs.RuleLemmas.{divides-one}
 use Rattle.sieve_core.specs.Bits.{has_bit}
 use Rattle.sieve_core.specs.Days.{meets_days, meets_months, meets_weeks}
 use Rattle.sieve_core.specs.Members.{meets_interval}
-use Rattle.sieve_core.specs.Months.{IsMonth, IsNearMonth, IsDayIn, IsDayReached, NoneSought, day_at, day_turn, days_left, is_month_open, is_sought, is_working_day, month_turn, sought_at}
+use Rattle.civil_core.specs.Months.{IsMonth, IsNearMonth, IsDayIn}
+use Rattle.sieve_core.specs.Seek.{IsDayReached, NoDaySought, day_at, day_turn, days_left, is_month_open, is_sought_day, is_working_day, month_turn, sought_at}
 use Rattle.sieve_core.specs.Nearest.{IsNearest}
 use Rattle.sieve_core.specs.Times.{IsLeast, IsLeastIn, turn}
-use Rattle.sieve_core.specs.declared.months.MonthPlace.{MonthPlace}
+use Rattle.civil_core.specs.declared.months.CivilMonth.{CivilMonth}
 use Rattle.sieve_core.specs.declared.tables.Sieve.{Sieve}
 
 pub working_day-parts : (d : ℤ) → is_working_day d ≡ true → (neg_ℤ (pos 4_368_278) ≤ℤ d)
@@ -49,7 +50,7 @@ unfolding is_working_day
 working_day-past Fore d j k here past h = grind (arith, floor_arith)
 working_day-past Back d j k here past h = grind (arith, floor_arith)
 
-pub in-year : (m : MonthPlace) (i : ℕ) → IsMonth m → i < m.len → (1 ≤ m.before + i + 1)
+pub in-year : (m : CivilMonth) (i : ℕ) → IsMonth m → i < m.len → (1 ≤ m.before + i + 1)
     × (m.before + i + 1 ≤ cond m.leap 366 365)
 in-year m i is below =
     let day = day-in m i is below in
@@ -77,14 +78,23 @@ day_turn-one Hour phase d = refl
 day_turn-one Minute phase d = refl
 day_turn-one Second phase d = refl
 
-pub sought-all : (s : Sieve) (d : ℤ) → s.interval ≡ 1 → is_working_day d ≡ true
-    → meets_days s.days d ≡ true → is_sought s d ≡ true
-unfolding is_sought
-sought-all s d e working days =
-    let month : month_turn s.unit s.interval s.phase (year_of d) (month_of d) ≡ true =
-    rw e (month_turn-one s.unit s.phase (year_of d) (month_of d)) in
-    let day : day_turn s.unit s.interval s.phase d ≡ true = rw e (day_turn-one s.unit s.phase d) in
-    and_from _ _ (and_from _ _ (and_from _ _ working days) month) day
+-- the interval as far as it tells days
+abbrev pub days_turn : TimeUnit → ℕ → ℤ → ℤ → ℕ → ℤ → Bool
+days_turn u n phase y m d = month_turn u n phase y m && day_turn u n phase d
+
+pub days_turn-one : (u : TimeUnit) (n : ℕ) (phase y : ℤ) (m : ℕ) (d : ℤ) → n ≡ 1
+    → days_turn u n phase y m d ≡ true
+days_turn-one u n phase y m d e =
+    rw e (and_from (month_turn u 1 phase y m) (day_turn u 1 phase d) (month_turn-one u phase y m)
+    (day_turn-one u phase d))
+
+pub sought-all : (s : Sieve) (d : ℤ) → is_working_day d ≡ true → meets_days s.days d ≡ true
+    → days_turn s.unit s.interval s.phase (year_of d) (month_of d) d ≡ true → is_sought_day s d ≡ true
+unfolding is_sought_day
+sought-all s d working days turns =
+    let parts = and_parts (month_turn s.unit s.interval s.phase (year_of d) (month_of d))
+    (day_turn s.unit s.interval s.phase d) turns in
+    and_from _ _ (and_from _ _ (and_from _ _ working days) parts.0) parts.1
 
 -- the interval by days
 pub turn-week_year : (s : Sieve) (t d : ℤ) (first : ℕ) → s.unit ≡ WeekYear first → day_of t ≡ d
@@ -103,7 +113,7 @@ unfolding meets_interval unit_of
 turn-day s t d e place = rw (e, ← place) refl
 
 -- what an open month says of its days
-pub open-months : (s : Sieve) (m : MonthPlace) (i : ℕ) (d : ℤ) → IsDayIn m i d
+pub open-months : (s : Sieve) (m : CivilMonth) (i : ℕ) (d : ℤ) → IsDayIn m i d
     → is_month_open s m.year m.month ≡ true → (meets_months s.days.months d ≡ true)
     × (month_turn s.unit s.interval s.phase (year_of d) (month_of d) ≡ true)
 unfolding meets_months
@@ -119,11 +129,11 @@ month-of-days s d e =
     let c = and_parts _ _ b.0 in
     (and_parts (meets_months s.days.months d) _ c.0).0
 
-pub sought-parts : (s : Sieve) (d : ℤ) → is_sought s d ≡ true → (is_working_day d ≡ true)
+pub sought-parts : (s : Sieve) (d : ℤ) → is_sought_day s d ≡ true → (is_working_day d ≡ true)
     × (meets_days s.days d ≡ true)
     × (month_turn s.unit s.interval s.phase (year_of d) (month_of d) ≡ true)
     × (day_turn s.unit s.interval s.phase d ≡ true)
-unfolding is_sought
+unfolding is_sought_day
 sought-parts s d e =
     let a = and_parts (is_working_day d && meets_days s.days d
     && month_turn s.unit s.interval s.phase (year_of d) (month_of d)) _ e in
@@ -131,35 +141,35 @@ sought-parts s d e =
     let c = and_parts (is_working_day d) _ b.0 in
     (c.0, c.1, b.1, a.1)
 
-pub nearest-works : (s : Sieve) (dir : Dir) (d e : ℤ) → IsNearest (is_sought s) dir d e
+pub nearest-works : (s : Sieve) (dir : Dir) (d e : ℤ) → IsNearest (is_sought_day s) dir d e
     → is_working_day e ≡ true
 nearest-works s dir d e near = (sought-parts s e near.meets).0
 
-months-by-number : (s : Sieve) (m : MonthPlace) (i : ℕ) (d : ℤ) → IsDayIn m i d
+months-by-number : (s : Sieve) (m : CivilMonth) (i : ℕ) (d : ℤ) → IsDayIn m i d
     → meets_months s.days.months d ≡ true
     → ((s.days.months == 0) || has_bit (s.days.months ∷ []) m.month) ≡ true
 unfolding meets_months
 months-by-number s m i d day e = rw (← day.month) e
 
 -- no day of a month that isn't open is sought
-opened-month : (s : Sieve) (m : MonthPlace) (i : ℕ) (d : ℤ) → IsDayIn m i d → is_sought s d ≡ true
+opened-month : (s : Sieve) (m : CivilMonth) (i : ℕ) (d : ℤ) → IsDayIn m i d → is_sought_day s d ≡ true
     → is_month_open s m.year m.month ≡ true
 opened-month s m i d day met =
     let parts = sought-parts s d met in
     and_from _ _ (months-by-number s m i d day (month-of-days s d parts.1))
     (rw (← day.year, ← day.month) parts.2)
 
-pub closed-month : (s : Sieve) (m : MonthPlace) (i : ℕ) (d : ℤ) → IsDayIn m i d
-    → is_month_open s m.year m.month ≡ false → is_sought s d ≡ false
+pub closed-month : (s : Sieve) (m : CivilMonth) (i : ℕ) (d : ℤ) → IsDayIn m i d
+    → is_month_open s m.year m.month ≡ false → is_sought_day s d ≡ false
 closed-month s m i d day e =
-    elim (cases_Bool (is_sought s d)) [
+    elim (cases_Bool (is_sought_day s d)) [
       | inl met ↦ absurd (true≢false (sym (opened-month s m i d day met) ∙ e))
       | inr unmet ↦ unmet
     ]
 
 pub sought-not-dates : (s : Sieve) (d : ℤ) (weeks : Bool) → (false && weeks) ≡ meets_days s.days d
-    → is_sought s d ≡ false
-unfolding is_sought
+    → is_sought_day s d ≡ false
+unfolding is_sought_day
 sought-not-dates s d weeks e = and_left _ _ (and_left _ _ (and_right _ _ (sym e)))
 
 and-true : (b : Bool) → (b && true) ≡ b
@@ -168,21 +178,21 @@ and-true false = refl
 
 pub sought-by-dates : (s : Sieve) (d : ℤ) → (true && meets_weeks s.days.weeks s.days.first d)
     ≡ meets_days s.days d
-    → month_turn s.unit s.interval s.phase (year_of d) (month_of d) ≡ true → is_sought s d
+    → month_turn s.unit s.interval s.phase (year_of d) (month_of d) ≡ true → is_sought_day s d
     ≡ (is_working_day d && meets_weeks s.days.weeks s.days.first d
     && day_turn s.unit s.interval s.phase d)
-unfolding is_sought
+unfolding is_sought_day
 sought-by-dates s d e month =
     rw (← e, month) (ap (λ b. b && day_turn s.unit s.interval s.phase d)
     (and-true (is_working_day d && meets_weeks s.days.weeks s.days.first d)))
 
 -- the days of a month in a direction
-day_at-on : (m : MonthPlace) (dir : Dir) (from j : ℕ) → from ≤ j → j < m.len → day_at m dir j
+day_at-on : (m : CivilMonth) (dir : Dir) (from j : ℕ) → from ≤ j → j < m.len → day_at m dir j
     ≡ ahead dir (day_at m dir from) (j - from)
 day_at-on m Fore from j h below = omega (arith, floor_arith)
 day_at-on m Back from j h below = omega (arith, floor_arith)
 
-day_at-first : (m : MonthPlace) (dir : Dir) (d : ℤ) (i : ℕ) → i < m.len → m.first +ℤ pos i ≡ d
+day_at-first : (m : CivilMonth) (dir : Dir) (d : ℤ) (i : ℕ) → i < m.len → m.first +ℤ pos i ≡ d
     → day_at m dir (turn dir m.len i) ≡ ahead dir d 0
 day_at-first m Fore d i below e = omega (arith, floor_arith)
 day_at-first m Back d i below e = omega (arith, floor_arith)
@@ -191,7 +201,7 @@ pub turned-within : (dir : Dir) (len i : ℕ) → i < len → turn dir len i < l
 turned-within Fore len i h = h
 turned-within Back len i h = omega arith
 
-pub reached-first : (s : Sieve) (dir : Dir) (d : ℤ) (m : MonthPlace) (i from : ℕ) → is_working_day d
+pub reached-first : (s : Sieve) (dir : Dir) (d : ℤ) (m : CivilMonth) (i from : ℕ) → is_working_day d
     ≡ true → IsMonth m → m.first +ℤ pos i ≡ d → i < m.len → from ≡ turn dir m.len i
     → IsDayReached s dir d m from
 reached-first s dir d m i from working is place below e =
@@ -207,30 +217,30 @@ reached-first s dir d m i from working is place below e =
       high = omega (arith, floor_arith, parts, is.lens, below);
     }
 
-reached-place : (s : Sieve) (dir : Dir) (d : ℤ) (m : MonthPlace) (from j : ℕ)
+reached-place : (s : Sieve) (dir : Dir) (d : ℤ) (m : CivilMonth) (from j : ℕ)
     (at : IsDayReached s dir d m from) → from ≤ j → j < m.len → day_at m dir j
     ≡ ahead dir d (at.steps + (j - from))
 reached-place s dir d m from j at h below =
     day_at-on m dir from j h below ∙ rw at.place (ahead-ahead dir d at.steps (j - from))
 
 -- nothing is sought up to a day of the month
-reached-clear : (s : Sieve) (dir : Dir) (d : ℤ) (m : MonthPlace) (from end : ℕ)
+reached-clear : (s : Sieve) (dir : Dir) (d : ℤ) (m : CivilMonth) (from end : ℕ)
     (at : IsDayReached s dir d m from) → from ≤ end → end ≤ m.len
     → ((k : ℕ) → from ≤ k → k < end → sought_at s m dir k ≡ false) → (k : ℕ) → k < at.steps +
-    (end - from) → seen (is_sought s) dir d k ≡ false
+    (end - from) → seen (is_sought_day s) dir d k ≡ false
 reached-clear s dir d m from end at low high none k below =
     elim (cases_lt k at.steps) [
       | inl early ↦ at.none_before k early
       | inr late ↦ (let whole : at.steps + (from + (k - at.steps) - from) ≡ k = omega (arith, late) in
           let place = reached-place s dir d m from (from + (k - at.steps)) at (omega arith)
           (omega (arith, below, late, low, high)) in
-          ap (is_sought s) (sym (place ∙ ap (ahead dir d) whole))
+          ap (is_sought_day s) (sym (place ∙ ap (ahead dir d) whole))
           ∙ none (from + (k - at.steps)) (omega arith) (omega (arith, below, late, low)))
     ]
 
-pub reached-found : (s : Sieve) (dir : Dir) (d u : ℤ) (m : MonthPlace) (from i : ℕ)
+pub reached-found : (s : Sieve) (dir : Dir) (d u : ℤ) (m : CivilMonth) (from i : ℕ)
     → IsDayReached s dir d m from → IsLeast (sought_at s m dir) from m.len i → u ≡ day_at m dir i
-    → IsNearest (is_sought s) dir d u
+    → IsNearest (is_sought_day s) dir d u
 reached-found s dir d u m from i at least e = record {
   steps = at.steps + (i - from);
   place = e ∙ reached-place s dir d m from i at least.low least.high;
@@ -239,19 +249,19 @@ reached-found s dir d u m from i at least e = record {
       least.none_before;
 }
 
-near-first : (dir : Dir) (m r : MonthPlace) → day_at r dir 0
+near-first : (dir : Dir) (m r : CivilMonth) → day_at r dir 0
     ≡ ahead dir (day_at m dir (m.len - 1)) 1 → IsNearMonth m → IsMonth r → IsMonth m
     → neg_ℤ (pos 4_500_000) ≤ℤ r.first
 near-first Fore m r place near is was = omega (arith, floor_arith, place, near.low, is.lens, was.lens)
 near-first Back m r place near is was = omega (arith, floor_arith, place, near.low, is.lens, was.lens)
 
-near-last : (dir : Dir) (m r : MonthPlace) → day_at r dir 0
+near-last : (dir : Dir) (m r : CivilMonth) → day_at r dir 0
     ≡ ahead dir (day_at m dir (m.len - 1)) 1 → IsNearMonth m → IsMonth r → IsMonth m → r.first ≤ℤ
     pos 4_500_000
 near-last Fore m r place near is was = omega (arith, floor_arith, place, near.high, is.lens, was.lens)
 near-last Back m r place near is was = omega (arith, floor_arith, place, near.high, is.lens, was.lens)
 
-pub reached-next : (s : Sieve) (dir : Dir) (d : ℤ) (m r : MonthPlace) (from : ℕ)
+pub reached-next : (s : Sieve) (dir : Dir) (d : ℤ) (m r : CivilMonth) (from : ℕ)
     → IsDayReached s dir d m from → IsLeastIn (sought_at s m dir) from m.len None → IsMonth r
     → day_at r dir 0 ≡ ahead dir (day_at m dir (m.len - 1)) 1 → IsNearMonth m
     → IsDayReached s dir d r 0
@@ -273,9 +283,9 @@ reached-next s dir d m r from at none is place near =
       high = near-last dir m r place near is at.month;
     }
 
-pub reached-end : (s : Sieve) (dir : Dir) (d : ℤ) (m : MonthPlace) (from : ℕ)
-    → IsDayReached s dir d m from → is_working_day (day_at m dir from) ≡ false → NoneSought s dir d
-unfolding is_sought
+pub reached-end : (s : Sieve) (dir : Dir) (d : ℤ) (m : CivilMonth) (from : ℕ)
+    → IsDayReached s dir d m from → is_working_day (day_at m dir from) ≡ false → NoDaySought s dir d
+unfolding is_sought_day
 reached-end s dir d m from at past k =
     elim (cases_lt k at.steps) [
       | inl early ↦ at.none_before k early
@@ -284,7 +294,7 @@ reached-end s dir d m from at past k =
     ]
 
 -- a month with a day of the working range
-pub near-month : (m : MonthPlace) (dir : Dir) (i : ℕ) → IsMonth m → i < m.len
+pub near-month : (m : CivilMonth) (dir : Dir) (i : ℕ) → IsMonth m → i < m.len
     → is_working_day (day_at m dir i) ≡ true → IsNearMonth m
 near-month m dir i is below working =
     let parts = working_day-parts (day_at m dir i) working in
@@ -300,7 +310,7 @@ near-month m dir i is below working =
       years_high = years.1;
     }
 
-pub days-fewer : (m r : MonthPlace) (dir : Dir) (from : ℕ) → from < m.len → IsMonth m
+pub days-fewer : (m r : CivilMonth) (dir : Dir) (from : ℕ) → from < m.len → IsMonth m
     → is_working_day (day_at m dir from) ≡ true → day_at r dir 0
     ≡ ahead dir (day_at m dir (m.len - 1)) 1 → days_left dir (day_at r dir 0) <
     days_left dir (day_at m dir from)

@@ -4,8 +4,8 @@ pub mod Days
 pub mod Known
 pub mod Laws
 pub mod Members
-pub mod Months
 pub mod Nearest
 pub mod Ranks
+pub mod Seek
 pub mod Sieves
 pub mod Times

@@ -8,7 +8,6 @@ mod days;
 mod known;
 mod laws;
 mod members;
-mod months;
 mod ranks;
 mod seek;
 mod tables;

@@ -1,4 +1,4 @@
-ghost use Rattle.std.specs.Prelude.{◌≡◌, ◌↔◌, ◌<◌, ◌≤◌, ◌&&◌, ℕ, ℤ, pos, ◌+ℤ◌, ◌≤ℤ◌, ◌<ℤ◌, true, false, IsTrue, IfSome, IfNone, None, Some};
+ghost use Rattle.std.specs.Prelude.{◌≡◌, ◌↔◌, ◌<◌, ◌≤◌, ◌&&◌, ℕ, ℤ, pos, ◌+ℤ◌, ◌≤ℤ◌, ◌<ℤ◌, neg_ℤ, ◌-◌, true, false, IsTrue, IfSome, IfNone, None, Some};
 ghost use Rattle.std.specs.Int.{IsInRange};
 ghost use Rattle.moment_core.specs.Line.{IsWorkingMoment};
 ghost use Rattle.moment_core.specs.Sets.{ahead, seen};
@@ -7,7 +7,8 @@ ghost use Rattle.moment_core.specs.TimeOfDay.{day_of, second_of_day};
 ghost use Rattle.moment_core.specs.declared.line.Dir.TheVariants.{Fore, Back};
 ghost use Rattle.sieve_core.specs.Days.{meets_days, meets_weekdays, meets_weeks, meets_months, is_nth_weekday};
 ghost use Rattle.sieve_core.specs.Members.{has};
-ghost use Rattle.sieve_core.specs.Months.{IsMonth, IsNearMonth, IsDayIn, day_at, day_turn, is_met, is_month_open, is_sought, is_working_day, month_turn, sought_at, NoneMet, NoneSought};
+ghost use Rattle.civil_core.specs.Months.{IsMonth, IsNearMonth, IsDayIn};
+ghost use Rattle.sieve_core.specs.Seek.{day_at, day_turn, is_sought_moment, is_month_open, is_sought_day, is_working_day, month_turn, sought_at, NoMomentSought, NoDaySought};
 ghost use Rattle.sieve_core.specs.Nearest.{IsNearest};
 ghost use Rattle.sieve_core.specs.Sieves.{IsSieve};
 ghost use Rattle.sieve_core.specs.Times.{IsLeast, IsLeastIn, meets_second, turn};
@@ -15,15 +16,14 @@ ghost use Rattle.sieve_core.specs.Times.{IsLeast, IsLeastIn, meets_second, turn}
 use crate::bits::{has_bit, is_zero, meets_signed};
 use crate::days::{are_zero, is_nth};
 use crate::members::second_of_day;
-use crate::months::{MonthPlace, month_at};
 use crate::tables::{DayTest, Sieve};
 use crate::times::{steps_on, turn};
 use crate::units::is_in_turn;
-use civil_core::fields;
+use civil_core::{CivilMonth, fields, month_at};
 use moment_core::{Dir, Moment, Unit, in_work};
 
 // Whether the day lies in the working range.
-#[tactic(auto, unfolding(crate::specs::Months::is_working_day))]
+#[tactic(auto, unfolding(crate::specs::Seek::is_working_day))]
 fn is_working_day(day: i64) -> bool
     ensures { result ≡ is_working_day day }
 {
@@ -50,10 +50,36 @@ fn second_of(day: i64, second: usize) -> Moment
     Moment(day * 86_400 + second as i64)
 }
 
+// The next month in the direction.
+fn next_month(dir: Dir, month: &CivilMonth) -> CivilMonth
+    requires month { IsMonth month.now }
+    requires near { IsNearMonth month.now }
+    ensures month { IsMonth result }
+    ensures place { day_at result dir 0 ≡ ahead dir (day_at month.now dir (month.now.len - 1)) 1 }
+{
+    match dir {
+        Dir::Fore => month.later(),
+        Dir::Back => month.earlier(),
+    }
+}
+
+// Day i of the month in the direction.
+fn day_in(dir: Dir, month: &CivilMonth, i: usize) -> i64
+    requires month { IsMonth month.now }
+    requires i { i < month.now.len }
+    requires low { neg_ℤ (pos 4_500_000) ≤ℤ month.now.first }
+    requires high { month.now.first ≤ℤ pos 4_500_000 }
+    ensures value { result ≡ day_at month.now dir i }
+    ensures low { neg_ℤ (pos 4_600_000) ≤ℤ result }
+    ensures high { result ≤ℤ pos 4_600_000 }
+{
+    month.first + turn(dir, month.len, i) as i64
+}
+
 impl DayTest {
     // Whether day i of the month meets the test of weekdays.
     #[tactic(auto, unfolding(crate::specs::Days::meets_weekdays, crate::specs::Days::is_nth_weekday))]
-    fn meets_weekday_in(&self, month: &MonthPlace, i: usize) -> bool
+    fn meets_weekday_in(&self, month: &CivilMonth, i: usize) -> bool
         requires month { IsMonth month.now }
         requires i { i < month.now.len }
         ensures { (day : ℤ) → IsDayIn month.now i day →
@@ -89,7 +115,7 @@ impl DayTest {
 
     // Whether day i of the month, whose bit is set, meets the tests that need its date alone.
     #[tactic(auto, unfolding(crate::specs::Days::meets_days, crate::specs::Days::meets_year_days, crate::specs::Days::meets_month_days))]
-    fn meets_date_in(&self, month: &MonthPlace, i: usize) -> bool
+    fn meets_date_in(&self, month: &CivilMonth, i: usize) -> bool
         requires month { IsMonth month.now }
         requires i { i < month.now.len }
         ensures { (day : ℤ) → IsDayIn month.now i day →
@@ -104,11 +130,12 @@ impl DayTest {
 
 impl Sieve {
     // Whether the month has its turn.
-    fn is_month_in_turn(&self, month: &MonthPlace) -> bool
+    fn is_month_in_turn(&self, month: &CivilMonth) -> bool
         requires sieve { IsSieve self.now }
         requires month { IsMonth month.now }
         requires near { IsNearMonth month.now }
-        ensures { result ≡ month_turn self.now.unit self.now.interval self.now.phase month.now.year month.now.month }
+        ensures { result ≡ month_turn self.now.unit self.now.interval self.now.phase month.now.year
+            month.now.month }
     {
         if self.interval == 1 {
             return true;
@@ -121,7 +148,7 @@ impl Sieve {
     }
 
     // Whether the month has its bit and its turn.
-    fn is_month_open(&self, month: &MonthPlace) -> bool
+    fn is_month_open(&self, month: &CivilMonth) -> bool
         requires sieve { IsSieve self.now }
         requires month { IsMonth month.now }
         requires near { IsNearMonth month.now }
@@ -148,20 +175,21 @@ impl Sieve {
     // Whether a day whose date is met is one to stop at.
     fn seeks_day(&self, day: i64) -> bool
         requires sieve { IsSieve self.now }
-        ensures { result ≡ (is_working_day day && meets_weeks self.now.days.weeks self.now.days.first day
+        ensures { result ≡ (is_working_day day
+            && meets_weeks self.now.days.weeks self.now.days.first day
             && day_turn self.now.unit self.now.interval self.now.phase day) }
     {
         is_working_day(day) && self.days.meets_week_of(day) && self.is_day_in_turn(day)
     }
 
     // Whether day i of an open month is one to stop at.
-    fn seeks_in(&self, month: &MonthPlace, i: usize) -> bool
+    fn seeks_in(&self, month: &CivilMonth, i: usize) -> bool
         requires sieve { IsSieve self.now }
         requires month { IsMonth month.now }
         requires near { IsNearMonth month.now }
         requires open_month { is_month_open self.now month.now.year month.now.month ≡ true }
         requires i { i < month.now.len }
-        ensures { result ≡ is_sought self.now (month.now.first +ℤ pos i) }
+        ensures { result ≡ is_sought_day self.now (month.now.first +ℤ pos i) }
     {
         if !self.days.meets_date_in(month, i) {
             return false;
@@ -170,7 +198,7 @@ impl Sieve {
     }
 
     // The first day of an open month to stop at, counted in the direction.
-    fn first_in_month(&self, dir: Dir, month: &MonthPlace, from: usize) -> Option<usize>
+    fn first_in_month(&self, dir: Dir, month: &CivilMonth, from: usize) -> Option<usize>
         requires sieve { IsSieve self.now }
         requires month { IsMonth month.now }
         requires near { IsNearMonth month.now }
@@ -186,7 +214,7 @@ impl Sieve {
     }
 
     // The same in any month.
-    fn first_in(&self, dir: Dir, month: &MonthPlace, from: usize) -> Option<usize>
+    fn first_in(&self, dir: Dir, month: &CivilMonth, from: usize) -> Option<usize>
         requires sieve { IsSieve self.now }
         requires month { IsMonth month.now }
         requires near { IsNearMonth month.now }
@@ -199,30 +227,47 @@ impl Sieve {
         }
     }
 
+    // Whether the interval leaves out no day, as one of hours doesn't.
+    fn takes_all_days(&self) -> bool
+        ensures { result ≡ true → (year : ℤ) (month : ℕ) (day : ℤ) →
+            (month_turn self.now.unit self.now.interval self.now.phase year month
+            && day_turn self.now.unit self.now.interval self.now.phase day) ≡ true }
+    {
+        if self.interval == 1 {
+            return true;
+        }
+        match self.unit {
+            Unit::Hour => true,
+            Unit::Minute => true,
+            Unit::Second => true,
+            _ => false,
+        }
+    }
+
     // Whether every day of the working range is one to stop at.
     fn seeks_all(&self) -> bool
-        ensures { result ≡ true → (d : ℤ) → is_working_day d ≡ true → is_sought self.now d ≡ true }
+        ensures { result ≡ true → (d : ℤ) → is_working_day d ≡ true → is_sought_day self.now d ≡ true }
     {
-        self.interval == 1 && self.days.is_free()
+        self.takes_all_days() && self.days.is_free()
     }
 
     // The nearest day to stop at, month by month from a day of one on.
-    fn next_day_from(&self, dir: Dir, day: i64, month: MonthPlace) -> Option<i64>
+    fn next_day_from(&self, dir: Dir, day: i64, month: CivilMonth) -> Option<i64>
         requires sieve { IsSieve self.now }
         requires day { is_working_day day ≡ true }
         requires month { IsMonth month }
         requires low { month.first ≤ℤ day }
         requires high { day <ℤ (month.first +ℤ pos month.len) }
-        ensures some { IfSome result (λ d. IsNearest (is_sought self.now) dir day d) }
-        ensures none { IfNone result (NoneSought self.now dir day) }
+        ensures some { IfSome result (λ d. IsNearest (is_sought_day self.now) dir day d) }
+        ensures none { IfNone result (NoDaySought self.now dir day) }
     {
         let mut month = month;
         let mut from = turn(dir, month.len, (day - month.first) as usize);
-        while is_working_day(month.day(dir, from)) {
+        while is_working_day(day_in(dir, &month, from)) {
             match self.first_in(dir, &month, from) {
-                Some(i) => return Some(month.day(dir, i)),
+                Some(i) => return Some(day_in(dir, &month, i)),
                 None => {
-                    month = month.next(dir);
+                    month = next_month(dir, &month);
                     from = 0;
                 }
             }
@@ -234,8 +279,8 @@ impl Sieve {
     fn next_day(&self, dir: Dir, t: Moment) -> Option<i64>
         requires sieve { IsSieve self.now }
         requires moment { IsWorkingMoment t.0 }
-        ensures some { IfSome result (λ d. IsNearest (is_sought self.now) dir (day_of t.0) d) }
-        ensures none { IfNone result (NoneSought self.now dir (day_of t.0)) }
+        ensures some { IfSome result (λ d. IsNearest (is_sought_day self.now) dir (day_of t.0) d) }
+        ensures none { IfNone result (NoDaySought self.now dir (day_of t.0)) }
     {
         let day = t.0.div_euclid(86_400);
         if self.seeks_all() {
@@ -244,13 +289,15 @@ impl Sieve {
         self.next_day_from(dir, day, month_at(t))
     }
 
-    // The nearest moment to stop at, where a time from the moment's own on is first met at second n.
-    fn next_met_from(&self, dir: Dir, t: Moment, n: usize) -> Option<Moment>
+    // The nearest moment to stop at, where a time from the moment's own on is first met at the
+    // second n.
+    fn next_moment_from(&self, dir: Dir, t: Moment, n: usize) -> Option<Moment>
         requires sieve { IsSieve self.now }
         requires moment { IsWorkingMoment t.0 }
-        requires least { IsLeast (meets_second self.now dir) (turn dir 86_400 (second_of_day t.0)) 86_400 n }
-        ensures some { IfSome result (λ u. IsNearest (is_met self.now) dir t.0 u.0) }
-        ensures none { IfNone result (NoneMet self.now dir t.0) }
+        requires least { IsLeast (meets_second self.now dir) (turn dir 86_400 (second_of_day t.0))
+            86_400 n }
+        ensures some { IfSome result (λ u. IsNearest (is_sought_moment self.now) dir t.0 u.0) }
+        ensures none { IfNone result (NoMomentSought self.now dir t.0) }
     {
         match self.next_day(dir, t) {
             None => None,
@@ -267,14 +314,14 @@ impl Sieve {
     }
 
     // The same where no time of the moment's day is left.
-    fn next_met_past(&self, dir: Dir, t: Moment, from: usize) -> Option<Moment>
+    fn next_moment_past(&self, dir: Dir, t: Moment, from: usize) -> Option<Moment>
         requires sieve { IsSieve self.now }
         requires moment { IsWorkingMoment t.0 }
         requires from { from ≡ turn dir 86_400 (second_of_day t.0) }
         requires day { from < 86_400 }
         requires none { (k : ℕ) → from ≤ k → k < 86_400 → meets_second self.now dir k ≡ false }
-        ensures some { IfSome result (λ u. IsNearest (is_met self.now) dir t.0 u.0) }
-        ensures none { IfNone result (NoneMet self.now dir t.0) }
+        ensures some { IfSome result (λ u. IsNearest (is_sought_moment self.now) dir t.0 u.0) }
+        ensures none { IfNone result (NoMomentSought self.now dir t.0) }
     {
         let next = steps_on(dir, t, 86_400 - from);
         if !in_work(next) {
@@ -282,21 +329,21 @@ impl Sieve {
         }
         match self.first_second(dir, 0) {
             None => None,
-            Some(first) => self.next_met_from(dir, next, first),
+            Some(first) => self.next_moment_from(dir, next, first),
         }
     }
 
     // The nearest moment to stop at, from a moment on.
-    fn next_met(&self, dir: Dir, t: Moment) -> Option<Moment>
+    fn next_moment(&self, dir: Dir, t: Moment) -> Option<Moment>
         requires sieve { IsSieve self.now }
         requires moment { IsWorkingMoment t.0 }
-        ensures some { IfSome result (λ u. IsNearest (is_met self.now) dir t.0 u.0) }
-        ensures none { IfNone result (NoneMet self.now dir t.0) }
+        ensures some { IfSome result (λ u. IsNearest (is_sought_moment self.now) dir t.0 u.0) }
+        ensures none { IfNone result (NoMomentSought self.now dir t.0) }
     {
         let from = turn(dir, 86_400, second_of_day(t));
         match self.first_second(dir, from) {
-            Some(n) => self.next_met_from(dir, t, n),
-            None => self.next_met_past(dir, t, from),
+            Some(n) => self.next_moment_from(dir, t, n),
+            None => self.next_moment_past(dir, t, from),
         }
     }
 
@@ -309,7 +356,7 @@ impl Sieve {
     {
         let mut at = self.start(dir, t);
         while self.is_open(at) {
-            match self.next_met(dir, at) {
+            match self.next_moment(dir, at) {
                 None => return None,
                 Some(u) => {
                     if !self.is_between(u) {

@@ -1,7 +1,7 @@
 use Rattle.std.proofs.Common.{◌∙◌, sym}
-use Rattle.sieve_core.specs.Months.{day_at}
+use Rattle.sieve_core.specs.Seek.{day_at}
 use Rattle.sieve_core.specs.Times.{turn}
-use Rattle.sieve_core.proofs.MonthLemmas.{day-in}
+use Rattle.civil_core.proofs.MonthLemmas.{day-in}
 use Rattle.sieve_core.proofs.SeekLemmas.{closed-month, turned-within}
 use Rattle.sieve_core.proofs.tables.Sieve.first_in.Goals as goal
 

@@ -1,5 +1,5 @@
 use Rattle.std.proofs.Common.{◌≡◌, ◌<◌, ◌≤◌, ℕ, false}
-use Rattle.sieve_core.specs.Months.{sought_at}
+use Rattle.sieve_core.specs.Seek.{sought_at}
 use Rattle.sieve_core.proofs.tables.Sieve.first_in_month.Given as goal
 
 abbrev pub invariant-loop-i : goal.invariant-loop-i

@@ -1,4 +1,4 @@
-use Rattle.sieve_core.specs.Months.{IsDayReached, day_at, days_left}
+use Rattle.sieve_core.specs.Seek.{IsDayReached, day_at, days_left}
 use Rattle.sieve_core.proofs.tables.Sieve.next_day_from.Given as goal
 
 abbrev pub invariant-loop-dir : goal.invariant-loop-dir

@@ -1,6 +1,6 @@
 use Rattle.std.proofs.Common.{◌∙◌, sym}
 use Rattle.std.proofs.lemmas.Bool.{true≢false}
-use Rattle.sieve_core.proofs.MetLemmas.{met-working, moments-fewer, next-member, none-left-closed, none-left-met, none-left-unmet, reached-past, reached-start}
+use Rattle.sieve_core.proofs.MomentLemmas.{met-working, moments-fewer, next-member, none-left-closed, none-left-met, none-left-unmet, reached-past, reached-start}
 use Rattle.sieve_core.proofs.tables.Sieve.seek.Goals as goal
 
 pub loop-dir-init : goal.loop-dir-init

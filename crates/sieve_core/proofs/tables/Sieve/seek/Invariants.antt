@@ -1,4 +1,4 @@
-use Rattle.sieve_core.specs.Months.{IsReached, moments_left}
+use Rattle.sieve_core.specs.Seek.{IsReached, moments_left}
 use Rattle.sieve_core.proofs.tables.Sieve.seek.Given as goal
 
 abbrev pub invariant-loop-dir : goal.invariant-loop-dir

@@ -1,7 +1,7 @@
 use Rattle.std.proofs.Common.{◌≡◌, ◌∙◌, sym, arith, w64, to_z, of_z, pos, ◌+ℤ◌}
 use Rattle.moment_core.proofs.FloorLemmas.{floor_arith}
 use Rattle.sieve_core.specs.Days.{meets_weeks}
-use Rattle.sieve_core.proofs.MonthLemmas.{day-in}
+use Rattle.civil_core.proofs.MonthLemmas.{day-in}
 use Rattle.sieve_core.proofs.SeekLemmas.{open-months, sought-by-dates, sought-not-dates}
 use Rattle.sieve_core.proofs.tables.Sieve.seeks_in.Goals as goal
 

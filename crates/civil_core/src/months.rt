@@ -1,25 +1,28 @@
-ghost use Rattle.std.specs.Prelude.{◌≡◌, ◌<◌, ◌≤◌, ◌≤ℤ◌, ◌<ℤ◌, neg_ℤ, ◌+◌, ◌-◌, pos, ◌+ℤ◌, ◌*ℤ◌, if◌then◌else◌};
+ghost use Rattle.std.specs.Prelude.{◌≡◌, ◌<◌, ◌≤◌, ◌≤ℤ◌, ◌<ℤ◌, neg_ℤ, ◌-◌, pos, ◌+ℤ◌, ◌*ℤ◌, if◌then◌else◌};
 ghost use Rattle.std.specs.Int.{IsInRange};
 ghost use Rattle.moment_core.specs.Calendar.{divides, is_leap, month_len};
 ghost use Rattle.moment_core.specs.Line.{IsWorkingMoment};
-ghost use Rattle.moment_core.specs.Sets.{ahead};
 ghost use Rattle.moment_core.specs.TimeOfDay.{day_of};
-ghost use Rattle.sieve_core.specs.Months.{IsMonth, IsNearMonth, day_at};
+ghost use Rattle.civil_core.specs.Months.{IsMonth, IsNearMonth};
 
-use crate::times::turn;
-use civil_core::fields;
-use moment_core::{Dir, Moment, Weekday};
+use crate::parts::fields;
+use moment_core::{Moment, Weekday};
 
-/// A month of the calendar.
+/// A month of the proleptic Gregorian calendar.
+///
+/// One that `month_at` gives, and those that `later` and `earlier` lead to, are whole (`IsMonth`), up
+/// to some years past the working range (`IsNearMonth`).
 #[derive(Clone, Copy)]
-pub(crate) struct MonthPlace {
+pub struct CivilMonth {
     pub year: i64,
     pub month: usize,
+    /// Whether its year has 366 days.
     pub leap: bool,
     /// The number of its first day.
     pub first: i64,
     /// The weekday of that day, from 1 for Monday.
     pub weekday: usize,
+    /// How many days it has.
     pub len: usize,
     /// How many days of the year come before it.
     pub before: usize,
@@ -53,7 +56,7 @@ fn month_len(leap: bool, month: usize) -> usize
 }
 
 /// The month that holds a moment.
-pub(crate) fn month_at(t: Moment) -> MonthPlace
+pub fn month_at(t: Moment) -> CivilMonth
     requires { IsWorkingMoment t.0 }
     ensures month { IsMonth result }
     ensures near { IsNearMonth result }
@@ -62,7 +65,7 @@ pub(crate) fn month_at(t: Moment) -> MonthPlace
 {
     let parts = fields(t, Weekday::new(1).unwrap());
     let index = parts.day as usize - 1;
-    MonthPlace {
+    CivilMonth {
         year: parts.year as i64,
         month: parts.month as usize,
         leap: parts.year_len == 366,
@@ -73,9 +76,9 @@ pub(crate) fn month_at(t: Moment) -> MonthPlace
     }
 }
 
-impl MonthPlace {
-    // The month after it.
-    fn later(&self) -> MonthPlace
+impl CivilMonth {
+    /// The month after it.
+    pub fn later(&self) -> CivilMonth
         requires month { IsMonth self.now }
         requires near { IsNearMonth self.now }
         ensures month { IsMonth result }
@@ -85,7 +88,7 @@ impl MonthPlace {
         let weekday = (self.weekday + self.len + 6) % 7 + 1;
         if self.month == 12 {
             let year = self.year + 1;
-            MonthPlace {
+            CivilMonth {
                 year,
                 month: 1,
                 leap: is_leap(year),
@@ -96,7 +99,7 @@ impl MonthPlace {
             }
         } else {
             let month = self.month + 1;
-            MonthPlace {
+            CivilMonth {
                 year: self.year,
                 month,
                 leap: self.leap,
@@ -108,8 +111,8 @@ impl MonthPlace {
         }
     }
 
-    // The month before it.
-    fn earlier(&self) -> MonthPlace
+    /// The month before it.
+    pub fn earlier(&self) -> CivilMonth
         requires month { IsMonth self.now }
         requires near { IsNearMonth self.now }
         ensures month { IsMonth result }
@@ -118,7 +121,7 @@ impl MonthPlace {
         if self.month == 1 {
             let year = self.year - 1;
             let leap = is_leap(year);
-            MonthPlace {
+            CivilMonth {
                 year,
                 month: 12,
                 leap,
@@ -130,7 +133,7 @@ impl MonthPlace {
         } else {
             let month = self.month - 1;
             let len = month_len(self.leap, month);
-            MonthPlace {
+            CivilMonth {
                 year: self.year,
                 month,
                 leap: self.leap,
@@ -142,21 +145,8 @@ impl MonthPlace {
         }
     }
 
-    /// The next month in the direction.
-    pub(crate) fn next(&self, dir: Dir) -> MonthPlace
-        requires month { IsMonth self.now }
-        requires near { IsNearMonth self.now }
-        ensures month { IsMonth result }
-        ensures place { day_at result dir 0 ≡ ahead dir (day_at self.now dir (self.now.len - 1)) 1 }
-    {
-        match dir {
-            Dir::Fore => self.later(),
-            Dir::Back => self.earlier(),
-        }
-    }
-
     /// Its number, counted from January of the year 0.
-    pub(crate) fn number(&self) -> i64
+    pub fn number(&self) -> i64
         requires month { IsMonth self.now }
         requires near { IsNearMonth self.now }
         ensures value { result ≡ self.now.year *ℤ pos 12 +ℤ pos (self.now.month - 1) }
@@ -166,8 +156,8 @@ impl MonthPlace {
         self.year * 12 + (self.month as i64 - 1)
     }
 
-    /// The number of day i.
-    pub(crate) fn nth_day(&self, i: usize) -> i64
+    /// The day number of its day i, the first one being 0.
+    pub fn nth_day(&self, i: usize) -> i64
         requires month { IsMonth self.now }
         requires near { IsNearMonth self.now }
         requires i { i < self.now.len }
@@ -178,21 +168,8 @@ impl MonthPlace {
         self.first + i as i64
     }
 
-    /// Day i in the direction.
-    pub(crate) fn day(&self, dir: Dir, i: usize) -> i64
-        requires month { IsMonth self.now }
-        requires i { i < self.now.len }
-        requires low { neg_ℤ (pos 4_500_000) ≤ℤ self.now.first }
-        requires high { self.now.first ≤ℤ pos 4_500_000 }
-        ensures value { result ≡ day_at self.now dir i }
-        ensures low { neg_ℤ (pos 4_600_000) ≤ℤ result }
-        ensures high { result ≤ℤ pos 4_600_000 }
-    {
-        self.first + turn(dir, self.len, i) as i64
-    }
-
     /// How many days its year has.
-    pub(crate) fn year_len(&self) -> usize
+    pub fn year_len(&self) -> usize
         ensures { result ≡ (if self.now.leap then 366 else 365) }
     {
         if self.leap { 366 } else { 365 }

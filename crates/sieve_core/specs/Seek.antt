@@ -1,11 +1,11 @@
--- The months of the calendar, and which of their days a search stops at.
-use Rattle.std.specs.Prelude.{◌≡◌, ◌<◌, ◌≤◌, ℕ, ◌+◌, ◌-◌, ◌%◌, Bool, true, ◌&&◌, ◌||◌, ◌==◌, unsigned_abs, false, [], ◌∷◌, ℤ, pos, neg_ℤ, ◌+ℤ◌, ◌-ℤ◌, ◌*ℤ◌, ◌≤ℤ◌, int_le}
-use Rattle.std.specs.Int.{IsInRange}
-use Rattle.moment_core.specs.Calendar.{divides, is_leap, month_len, days_of_months, day_number, year_of, month_of, day_of_month, days_into_year, weekday_of, week_year_of, week_number}
+-- Where a search for members stops, and how far it has come.
+use Rattle.std.specs.Prelude.{◌≡◌, ◌<◌, ◌≤◌, ℕ, ◌+◌, ◌-◌, Bool, true, ◌&&◌, ◌||◌, ◌==◌, unsigned_abs, false, [], ◌∷◌, ℤ, pos, neg_ℤ, ◌+ℤ◌, ◌-ℤ◌, ◌*ℤ◌, ◌≤ℤ◌, int_le}
+use Rattle.moment_core.specs.Calendar.{divides, year_of, month_of, week_year_of, week_number}
 use Rattle.moment_core.specs.declared.line.Dir.{Dir}
 use Rattle.moment_core.specs.declared.units.Unit.{Unit as TimeUnit}
 use Rattle.moment_core.specs.declared.units.Unit.TheVariants.{Year, WeekYear, Month, Week, Day}
-use Rattle.sieve_core.specs.declared.months.MonthPlace.{MonthPlace}
+use Rattle.civil_core.specs.declared.months.CivilMonth.{CivilMonth}
+use Rattle.civil_core.specs.Months.{IsMonth}
 use Rattle.sieve_core.specs.declared.tables.Sieve.{Sieve}
 use Rattle.sieve_core.specs.Bits.{has_bit}
 use Rattle.sieve_core.specs.Days.{meets_days}
@@ -18,37 +18,8 @@ use Rattle.moment_core.specs.Sets.{ahead, seen}
 use Rattle.moment_core.specs.declared.line.Dir.TheVariants.{Fore, Back}
 use Rattle.moment_core.specs.TimeOfDay.{day_of, second_of_day}
 
--- the parts of a month fit together
-pub record IsMonth (m : MonthPlace) : Type 0 where
-  pub month : IsInRange 1 12 m.month
-  pub leap : m.leap ≡ is_leap m.year
-  pub first : m.first ≡ day_number m.year m.month 1
-  pub weekday : m.weekday ≡ weekday_of m.first
-  pub len : m.len ≡ month_len m.leap m.month
-  pub before : m.before ≡ days_of_months m.leap (m.month - 1)
-  pub weekdays : IsInRange 1 7 m.weekday
-  pub lens : IsInRange 28 31 m.len
-  pub befores : m.before ≤ 335
-
--- not far from the working range
-pub record IsNearMonth (m : MonthPlace) : Type 0 where
-  pub low : neg_ℤ (pos 4_400_000) ≤ℤ m.first
-  pub high : m.first ≤ℤ pos 4_400_000
-  pub years_low : neg_ℤ (pos 9990) ≤ℤ m.year
-  pub years_high : m.year ≤ℤ pos 9990
-
--- what day i of a month is, the first one being 0
-pub record IsDayIn (m : MonthPlace) (i : ℕ) (d : ℤ) : Type 0 where
-  pub year : year_of d ≡ m.year
-  pub leap : is_leap (year_of d) ≡ m.leap
-  pub month : month_of d ≡ m.month
-  pub day : day_of_month d ≡ i + 1
-  pub into : days_into_year d ≡ m.before + i
-  pub weekday : weekday_of d ≡ (m.weekday + i + 6) % 7 + 1
-  pub len : month_len (is_leap (year_of d)) (month_of d) ≡ m.len
-
 -- day i of a month in a direction
-abbrev pub day_at : MonthPlace → Dir → ℕ → ℤ
+abbrev pub day_at : CivilMonth → Dir → ℕ → ℤ
 day_at m dir i = m.first +ℤ pos (turn dir m.len i)
 
 -- a day of the working range
@@ -71,27 +42,29 @@ day_turn u n phase d = true
 -- the month has its bit and its turn
 abbrev pub is_month_open : Sieve → ℤ → ℕ → Bool
 is_month_open s y m =
-    ((s.days.months == 0) || has_bit (s.days.months ∷ []) m) && month_turn s.unit s.interval s.phase y m
+    ((s.days.months == 0) || has_bit (s.days.months ∷ []) m)
+    && month_turn s.unit s.interval s.phase y m
 
 -- a day of the working range that meets the tests of days, and the interval as far as it tells days
-unfoldable pub is_sought : Sieve → ℤ → Bool
-is_sought s d =
-    is_working_day d && meets_days s.days d && month_turn s.unit s.interval s.phase (year_of d) (month_of d)
+unfoldable pub is_sought_day : Sieve → ℤ → Bool
+is_sought_day s d =
+    is_working_day d && meets_days s.days d
+    && month_turn s.unit s.interval s.phase (year_of d) (month_of d)
     && day_turn s.unit s.interval s.phase d
 
 -- day i of a month in a direction is one
-abbrev pub sought_at : Sieve → MonthPlace → Dir → ℕ → Bool
-sought_at s m dir i = is_sought s (day_at m dir i)
+abbrev pub sought_at : Sieve → CivilMonth → Dir → ℕ → Bool
+sought_at s m dir i = is_sought_day s (day_at m dir i)
 
 -- no day from one on is
-abbrev pub NoneSought : Sieve → Dir → ℤ → Type 0
-NoneSought s dir d = (k : ℕ) → seen (is_sought s) dir d k ≡ false
+abbrev pub NoDaySought : Sieve → Dir → ℤ → Type 0
+NoDaySought s dir d = (k : ℕ) → seen (is_sought_day s) dir d k ≡ false
 
 -- how far a search has come among days
-pub record IsDayReached (s : Sieve) (dir : Dir) (d : ℤ) (m : MonthPlace) (from : ℕ) : Type 0 where
+pub record IsDayReached (s : Sieve) (dir : Dir) (d : ℤ) (m : CivilMonth) (from : ℕ) : Type 0 where
   pub steps : ℕ
   pub place : day_at m dir from ≡ ahead dir d steps
-  pub none_before : (k : ℕ) → k < steps → seen (is_sought s) dir d k ≡ false
+  pub none_before : (k : ℕ) → k < steps → seen (is_sought_day s) dir d k ≡ false
   pub month : IsMonth m
   pub within : from < m.len
   pub working : is_working_day d ≡ true
@@ -104,18 +77,19 @@ days_left Fore d = unsigned_abs (pos 4_400_000 -ℤ d)
 days_left Back d = unsigned_abs (d +ℤ pos 4_400_000)
 
 -- and a time of such a day
-unfoldable pub is_met : Sieve → ℤ → Bool
-is_met s t = is_sought s (day_of t) && meets_time s (second_of_day t)
+unfoldable pub is_sought_moment : Sieve → ℤ → Bool
+is_sought_moment s t = is_sought_day s (day_of t) && meets_time s (second_of_day t)
 
 -- no moment from one on is met
-abbrev pub NoneMet : Sieve → Dir → ℤ → Type 0
-NoneMet s dir t = (k : ℕ) → seen (is_met s) dir t k ≡ false
+abbrev pub NoMomentSought : Sieve → Dir → ℤ → Type 0
+NoMomentSought s dir t = (k : ℕ) → seen (is_sought_moment s) dir t k ≡ false
 
 -- how far a search has come among moments
 pub record IsReached (s : Sieve) (dir : Dir) (t at : ℤ) : Type 0 where
   pub gap : ℕ
   pub place : at ≡ ahead dir t (gap + 1)
-  pub none_before : (k : ℕ) → 0 < k → k ≤ gap → IsWorkingMoment (ahead dir t k) → seen (has s) dir t k ≡ false
+  pub none_before : (k : ℕ) → 0 < k → k ≤ gap → IsWorkingMoment (ahead dir t k)
+      → seen (has s) dir t k ≡ false
   pub near : IsPastNearEnd s dir at
   pub working : IsWorkingMoment t
 

@@ -1,9 +1,9 @@
 use Rattle.std.proofs.Common.{◌≡◌, ◌∙◌, sym, ap, arith, w64, to_z, of_z}
 use Rattle.moment_core.proofs.FloorLemmas.{floor_arith}
 use Rattle.moment_core.specs.TimeOfDay.{day_of}
-use Rattle.sieve_core.proofs.MetLemmas.{nearest-later_day, nearest-same_day, none-met, turned_day-below}
+use Rattle.sieve_core.proofs.MomentLemmas.{nearest-later_day, nearest-same_day, none-met, turned_day-below}
 use Rattle.sieve_core.proofs.SeekLemmas.{nearest-works, working_day-fits}
-use Rattle.sieve_core.proofs.tables.Sieve.next_met_from.Goals as goal
+use Rattle.sieve_core.proofs.tables.Sieve.next_moment_from.Goals as goal
 
 pub returns-in-None-clause-none : goal.returns-in-None-clause-none
 returns-in-None-clause-none c = none-met c.args.self.now c.args.dir c.args.t.0 c.in-None.ensures.none

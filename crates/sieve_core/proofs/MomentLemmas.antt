@@ -19,7 +19,7 @@ use Rattle.sieve_core.proofs.SeekLemmas.{sought-parts, working_day-of, working_d
 use Rattle.sieve_core.proofs.TimeLemmas.{meets_second-is, meets_tests-is}
 use Rattle.sieve_core.specs.Days.{meets_days}
 use Rattle.sieve_core.specs.Members.{has, is_between, meets_interval, meets_rank, meets_rule, meets_tests}
-use Rattle.sieve_core.specs.Months.{IsReached, NoneMet, NoneSought, day_turn, is_met, is_sought, is_working_day, moments_left, month_turn}
+use Rattle.sieve_core.specs.Seek.{IsReached, NoMomentSought, NoDaySought, day_turn, is_sought_moment, is_sought_day, is_working_day, moments_left, month_turn}
 use Rattle.sieve_core.specs.Nearest.{IsNearest, IsStart}
 use Rattle.sieve_core.specs.Times.{IsLeast, IsLeastIn, meets_second, meets_time, turn}
 use Rattle.sieve_core.specs.declared.tables.Sieve.{Sieve}
@@ -43,48 +43,48 @@ place-by_days Back t u q m day second below low = omega (arith, floor_arith)
 
 -- a moment is met where its day is sought and its time is met
 met-by_days : (s : Sieve) (dir : Dir) (t : ℤ) (k q r : ℕ) → turn dir 86_400 (second_of_day t) + k
-    ≡ 86_400 * q + r → r < 86_400 → seen (is_met s) dir t k
-    ≡ (seen (is_sought s) dir (day_of t) q && meets_second s dir r)
-unfolding is_met
+    ≡ 86_400 * q + r → r < 86_400 → seen (is_sought_moment s) dir t k
+    ≡ (seen (is_sought_day s) dir (day_of t) q && meets_second s dir r)
+unfolding is_sought_moment
 met-by_days s dir t k q r e below =
     let place = ahead-by_days dir t k q r e below in
     rw (place.0, place.1, meets_second-is s dir r below) refl
 
-met-parts : (s : Sieve) (u : ℤ) → is_met s u ≡ true → (is_sought s (day_of u) ≡ true)
+met-parts : (s : Sieve) (u : ℤ) → is_sought_moment s u ≡ true → (is_sought_day s (day_of u) ≡ true)
     × (meets_time s (second_of_day u) ≡ true)
-unfolding is_met
-met-parts s u e = and_parts (is_sought s (day_of u)) (meets_time s (second_of_day u)) e
+unfolding is_sought_moment
+met-parts s u e = and_parts (is_sought_day s (day_of u)) (meets_time s (second_of_day u)) e
 
 working-by_day : (u : ℤ) → is_working_day (day_of u) ≡ true → IsWorkingMoment u
 working-by_day u e =
     let parts = working_day-parts (day_of u) e in
     (omega (arith, floor_arith, parts), omega (arith, floor_arith, parts))
 
-pub met-working : (s : Sieve) (u : ℤ) → is_met s u ≡ true → IsWorkingMoment u
+pub met-working : (s : Sieve) (u : ℤ) → is_sought_moment s u ≡ true → IsWorkingMoment u
 met-working s u e = working-by_day u (sought-parts s (day_of u) (met-parts s u e).0).0
 
-pub none-met : (s : Sieve) (dir : Dir) (t : ℤ) → NoneSought s dir (day_of t) → NoneMet s dir t
+pub none-met : (s : Sieve) (dir : Dir) (t : ℤ) → NoDaySought s dir (day_of t) → NoMomentSought s dir t
 none-met s dir t none k =
     let n = turn dir 86_400 (second_of_day t) + k in
     met-by_days s dir t k (n / 86_400) (n % 86_400) (omega arith) (omega arith)
     ∙ and_left _ _ (none (n / 86_400))
 
 -- the nearest day, and on it the first time that isn't before t
-nearest-met : (s : Sieve) (dir : Dir) (t d u : ℤ) (m : ℕ) (days : IsNearest (is_sought s) dir
+nearest-met : (s : Sieve) (dir : Dir) (t d u : ℤ) (m : ℕ) (days : IsNearest (is_sought_day s) dir
     (day_of t) d) → day_of u ≡ d → second_of_day u ≡ turn dir 86_400 m → m < 86_400
     → turn dir 86_400 (second_of_day t) ≤ 86_400 * days.steps + m → meets_second s dir m ≡ true
     → ((r : ℕ) → turn dir 86_400 (second_of_day t) ≤ 86_400 * days.steps + r → r < m
-    → meets_second s dir r ≡ false) → IsNearest (is_met s) dir t u
-unfolding is_met
+    → meets_second s dir r ≡ false) → IsNearest (is_sought_moment s) dir t u
+unfolding is_sought_moment
 nearest-met s dir t d u m days day second below low met none =
     let from = turn dir 86_400 (second_of_day t) in
     let q = days.steps in
-    let sought : is_sought s (day_of u) ≡ true = rw day days.meets in
+    let sought : is_sought_day s (day_of u) ≡ true = rw day days.meets in
     let time : meets_time s (second_of_day u) ≡ true = rw second (sym (meets_second-is s dir m below) ∙ met) in
     record {
       steps = 86_400 * q + m - from;
       place = place-by_days dir t u q m (day ∙ days.place) second below low;
-      meets = and_from (is_sought s (day_of u)) (meets_time s (second_of_day u)) sought time;
+      meets = and_from (is_sought_day s (day_of u)) (meets_time s (second_of_day u)) sought time;
       none_before = λ k early.
           met-by_days s dir t k ((from + k) / 86_400) ((from + k) % 86_400) (omega arith) (omega arith)
           ∙ elim (cases_lt ((from + k) / 86_400) q) [
@@ -95,10 +95,10 @@ nearest-met s dir t d u m days day second below low met none =
     }
 
 -- on the day of t itself
-pub nearest-same_day : (s : Sieve) (dir : Dir) (t d u : ℤ) (n : ℕ) → IsNearest (is_sought s) dir
+pub nearest-same_day : (s : Sieve) (dir : Dir) (t d u : ℤ) (n : ℕ) → IsNearest (is_sought_day s) dir
     (day_of t) d → d ≡ day_of t → day_of u ≡ d → second_of_day u ≡ turn dir 86_400 n
     → IsLeast (meets_second s dir) (turn dir 86_400 (second_of_day t)) 86_400 n
-    → IsNearest (is_met s) dir t u
+    → IsNearest (is_sought_moment s) dir t u
 nearest-same_day s dir t d u n days same day second least =
     let none : days.steps ≡ 0 = same-steps dir (day_of t) d days.steps 0 days.place
     (same ∙ sym (ahead-zero dir (day_of t))) in
@@ -106,10 +106,10 @@ nearest-same_day s dir t d u n days same day second least =
     (λ r from early. least.none_before r (omega (arith, none, from)) early)
 
 -- on a later day
-pub nearest-later_day : (s : Sieve) (dir : Dir) (t d u : ℤ) (n : ℕ) → IsNearest (is_sought s) dir
+pub nearest-later_day : (s : Sieve) (dir : Dir) (t d u : ℤ) (n : ℕ) → IsNearest (is_sought_day s) dir
     (day_of t) d → (d ≡ day_of t → ⊥) → day_of u ≡ d → second_of_day u ≡ turn dir 86_400 n
     → IsLeast (meets_second s dir) 0 86_400 n → turn dir 86_400 (second_of_day t) < 86_400
-    → IsNearest (is_met s) dir t u
+    → IsNearest (is_sought_moment s) dir t u
 nearest-later_day s dir t d u n days other day second least within =
     elim (cases_lt 0 days.steps) [
       | inl some ↦ nearest-met s dir t d u n days day second least.high (omega (arith, some, within)) least.meets
@@ -161,7 +161,7 @@ if-none_then (Some x) h f = tt
 
 -- where no time is met
 pub none-times : (s : Sieve) (dir : Dir) (t : ℤ) → IsLeastIn (meets_second s dir) 0 86_400 None
-    → NoneMet s dir t
+    → NoMomentSought s dir t
 none-times s dir t none k =
     let n = turn dir 86_400 (second_of_day t) + k in
     met-by_days s dir t k (n / 86_400) (n % 86_400) (omega arith) (omega arith)
@@ -171,7 +171,7 @@ none-times s dir t none k =
 pub none-same_day : (s : Sieve) (dir : Dir) (t : ℤ) (from : ℕ) → from
     ≡ turn dir 86_400 (second_of_day t)
     → ((k : ℕ) → from ≤ k → k < 86_400 → meets_second s dir k ≡ false) → (k : ℕ) → k < 86_400 - from
-    → seen (is_met s) dir t k ≡ false
+    → seen (is_sought_moment s) dir t k ≡ false
 none-same_day s dir t from e none k below =
     met-by_days s dir t k 0 (from + k) (omega (arith, e)) (omega (arith, below))
     ∙ and_right _ _ (none (from + k) (omega arith) (omega (arith, below)))
@@ -182,15 +182,15 @@ next-day dir t w from e below place =
     ap day_of place ∙ (ahead-by_days dir t (86_400 - from) 1 0 (omega (arith, e, below)) (omega arith)).0
 
 unsought-past : (s : Sieve) (dir : Dir) (d : ℤ) (k : ℕ) → is_working_day d ≡ true
-    → is_working_day (ahead dir d 1) ≡ false → 1 ≤ k → seen (is_sought s) dir d k ≡ false
-unfolding is_sought
+    → is_working_day (ahead dir d 1) ≡ false → 1 ≤ k → seen (is_sought_day s) dir d k ≡ false
+unfolding is_sought_day
 unsought-past s dir d k here past h = and_left _ _ (and_left _ _ (and_left _ _ (working_day-past dir d 1 k here past h)))
 
 -- and the working range ends with it
 pub none-past : (s : Sieve) (dir : Dir) (t w : ℤ) (from : ℕ) → IsWorkingMoment t → from
     ≡ turn dir 86_400 (second_of_day t) → from < 86_400
     → ((k : ℕ) → from ≤ k → k < 86_400 → meets_second s dir k ≡ false) → w
-    ≡ ahead dir t (86_400 - from) → (IsWorkingMoment w → ⊥) → NoneMet s dir t
+    ≡ ahead dir t (86_400 - from) → (IsWorkingMoment w → ⊥) → NoMomentSought s dir t
 none-past s dir t w from working e below none place closed k =
     let day = next-day dir t w from e below place in
     let past : is_working_day (ahead dir (day_of t) 1) ≡ false =
@@ -227,8 +227,8 @@ interval-turns s t e = turns s.unit s.interval s.phase t e
 
 sought-from : (s : Sieve) (d : ℤ) → is_working_day d ≡ true → meets_days s.days d ≡ true
     → month_turn s.unit s.interval s.phase (year_of d) (month_of d) ≡ true
-    → day_turn s.unit s.interval s.phase d ≡ true → is_sought s d ≡ true
-unfolding is_sought
+    → day_turn s.unit s.interval s.phase d ≡ true → is_sought_day s d ≡ true
+unfolding is_sought_day
 sought-from s d working days month day = and_from _ _ (and_from _ _ (and_from _ _ working days) month) day
 
 -- a member is met
@@ -240,8 +240,8 @@ member-parts s u e =
     let turn = and_parts (meets_tests s u && meets_interval s u) (meets_rank s u) rule.1 in
     and_parts (meets_tests s u) (meets_interval s u) turn.0
 
-member-met : (s : Sieve) (u : ℤ) → IsWorkingMoment u → has s u ≡ true → is_met s u ≡ true
-unfolding is_met
+member-met : (s : Sieve) (u : ℤ) → IsWorkingMoment u → has s u ≡ true → is_sought_moment s u ≡ true
+unfolding is_sought_moment
 member-met s u working e =
     let parts = member-parts s u e in
     let tests = and_parts (meets_days s.days (day_of u)) (meets_time s (second_of_day u))
@@ -249,7 +249,7 @@ member-met s u working e =
     let turn = interval-turns s u parts.1 in
     and_from _ _ (sought-from s (day_of u) (working_day-of u working) tests.0 turn.0 turn.1) tests.1
 
-no-member : (s : Sieve) (u : ℤ) → IsWorkingMoment u → is_met s u ≡ false → has s u ≡ false
+no-member : (s : Sieve) (u : ℤ) → IsWorkingMoment u → is_sought_moment s u ≡ false → has s u ≡ false
 no-member s u working unmet =
     elim (cases_Bool (has s u)) [
       | inl member ↦ absurd (true≢false (sym (member-met s u working member) ∙ unmet))
@@ -257,7 +257,7 @@ no-member s u working unmet =
     ]
 
 -- and what is met is a member between the ends, if it has its turn
-met-member : (s : Sieve) (u : ℤ) → is_met s u ≡ true → is_between s u ≡ true
+met-member : (s : Sieve) (u : ℤ) → is_sought_moment s u ≡ true → is_between s u ≡ true
     → (meets_interval s u && meets_rank s u) ≡ true → has s u ≡ true
 unfolding has meets_rule
 met-member s u met between e =
@@ -302,33 +302,33 @@ none-left-closed s dir t w at closed = λ k some within.
     ]
 
 -- nor where nothing is met
-pub none-left-unmet : (s : Sieve) (dir : Dir) (t w : ℤ) → IsReached s dir t w → NoneMet s dir w
+pub none-left-unmet : (s : Sieve) (dir : Dir) (t w : ℤ) → IsReached s dir t w → NoMomentSought s dir w
     → NoCandidateLeft (has s) dir t
 none-left-unmet s dir t w at none = λ k some within.
     elim (cases_lt at.gap k) [
-      | inl late ↦ no-member s (ahead dir t k) within (seen-from (is_met s) dir t w (at.gap + 1) k
+      | inl late ↦ no-member s (ahead dir t k) within (seen-from (is_sought_moment s) dir t w (at.gap + 1) k
           at.place (omega (arith, late)) ∙ none (k - (at.gap + 1)))
       | inr early ↦ at.none_before k some early within
     ]
 
 -- from a place that is met on
 clear-to_met : (s : Sieve) (dir : Dir) (t w u : ℤ) (at : IsReached s dir t w)
-    (near : IsNearest (is_met s) dir w u) (k : ℕ) → 0 < k → k < at.gap + 1 + near.steps
+    (near : IsNearest (is_sought_moment s) dir w u) (k : ℕ) → 0 < k → k < at.gap + 1 + near.steps
     → IsWorkingMoment (ahead dir t k) → seen (has s) dir t k ≡ false
 clear-to_met s dir t w u at near k some below within =
     elim (cases_lt at.gap k) [
-      | inl late ↦ no-member s (ahead dir t k) within (seen-from (is_met s) dir t w (at.gap + 1) k
+      | inl late ↦ no-member s (ahead dir t k) within (seen-from (is_sought_moment s) dir t w (at.gap + 1) k
           at.place (omega (arith, late)) ∙ near.none_before (k - (at.gap + 1)) (omega (arith, late, below)))
       | inr early ↦ at.none_before k some early within
     ]
 
 met-place : (s : Sieve) (dir : Dir) (t w u : ℤ) (at : IsReached s dir t w)
-    (near : IsNearest (is_met s) dir w u) → u ≡ ahead dir t (at.gap + 1 + near.steps)
+    (near : IsNearest (is_sought_moment s) dir w u) → u ≡ ahead dir t (at.gap + 1 + near.steps)
 met-place s dir t w u at near = near.place ∙ rw at.place (ahead-ahead dir t (at.gap + 1) near.steps)
 
 -- nothing lies past one that isn't between the ends
 pub none-left-met : (s : Sieve) (dir : Dir) (t w u : ℤ) → IsReached s dir t w
-    → IsNearest (is_met s) dir w u → is_between s u ≡ false → NoCandidateLeft (has s) dir t
+    → IsNearest (is_sought_moment s) dir w u → is_between s u ≡ false → NoCandidateLeft (has s) dir t
 none-left-met s dir t w u at near outside = λ k some within.
     let n = at.gap + 1 + near.steps in
     let place = met-place s dir t w u at near in
@@ -342,7 +342,7 @@ none-left-met s dir t w u at near outside = λ k some within.
 
 -- one between the ends that has its turn is the nearest member
 pub next-member : (s : Sieve) (dir : Dir) (t w u : ℤ) → IsReached s dir t w
-    → IsNearest (is_met s) dir w u → is_between s u ≡ true
+    → IsNearest (is_sought_moment s) dir w u → is_between s u ≡ true
     → (meets_interval s u && meets_rank s u) ≡ true → IsNextCandidate (has s) dir t u
 next-member s dir t w u at near between turn =
     let place = met-place s dir t w u at near in
@@ -362,7 +362,7 @@ next-member s dir t w u at near between turn =
 
 -- and after another the search goes on
 pub reached-past : (s : Sieve) (dir : Dir) (t w u v : ℤ) → IsReached s dir t w
-    → IsNearest (is_met s) dir w u → (meets_interval s u && meets_rank s u) ≡ false → v
+    → IsNearest (is_sought_moment s) dir w u → (meets_interval s u && meets_rank s u) ≡ false → v
     ≡ ahead dir u 1 → IsReached s dir t v
 reached-past s dir t w u v at near turn on =
     let place = met-place s dir t w u at near in
@@ -379,6 +379,6 @@ reached-past s dir t w u v at near turn on =
     }
 
 pub moments-fewer : (s : Sieve) (dir : Dir) (w u v : ℤ) → IsWorkingMoment w → IsWorkingMoment u
-    → IsNearest (is_met s) dir w u → v ≡ ahead dir u 1 → moments_left dir v < moments_left dir w
+    → IsNearest (is_sought_moment s) dir w u → v ≡ ahead dir u 1 → moments_left dir v < moments_left dir w
 moments-fewer s Fore w u v here there near on = omega (arith, floor_arith, here, there, near.place, on)
 moments-fewer s Back w u v here there near on = omega (arith, floor_arith, here, there, near.place, on)

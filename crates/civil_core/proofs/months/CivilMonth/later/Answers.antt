@@ -1,7 +1,7 @@
 use Rattle.std.proofs.Common.{refl, arith}
 use Rattle.moment_core.proofs.FloorLemmas.{floor_arith}
-use Rattle.sieve_core.proofs.MonthLemmas.{month-january, month-later}
-use Rattle.sieve_core.proofs.months.MonthPlace.later.Goals as goal
+use Rattle.civil_core.proofs.MonthLemmas.{month-january, month-later}
+use Rattle.civil_core.proofs.months.CivilMonth.later.Goals as goal
 
 pub returns-then-self-eq12-clause-month : goal.returns-then-self-eq12-clause-month
 returns-then-self-eq12-clause-month c =

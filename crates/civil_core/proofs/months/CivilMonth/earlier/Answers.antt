@@ -1,7 +1,7 @@
 use Rattle.std.proofs.Common.{refl, arith}
 use Rattle.moment_core.proofs.FloorLemmas.{floor_arith}
-use Rattle.sieve_core.proofs.MonthLemmas.{before-earlier, month-december, month-earlier}
-use Rattle.sieve_core.proofs.months.MonthPlace.earlier.Goals as goal
+use Rattle.civil_core.proofs.MonthLemmas.{before-earlier, month-december, month-earlier}
+use Rattle.civil_core.proofs.months.CivilMonth.earlier.Goals as goal
 
 pub overflow_sub-result-else-self-eq1-3 : goal.overflow_sub-result-else-self-eq1-3
 overflow_sub-result-else-self-eq1-3 c =

@@ -6,8 +6,8 @@ use Rattle.moment_core.specs.Calendar.{is_leap, year_len, month_len, days_of_mon
 use Rattle.moment_core.proofs.YearLaws.{mono}
 use Rattle.moment_core.proofs.DateLaws.{days_of_months-zero, days_of_months-suc, days_of_months-step, month_of-is, day_number-of, date-of_day_number, month_len_bounds}
 use Rattle.moment_core.proofs.MonthLaws.{day_number-day, day_number-next_month, day_number-next_year}
-use Rattle.sieve_core.specs.declared.months.MonthPlace.{MonthPlace}
-use Rattle.sieve_core.specs.Months.{IsMonth, IsDayIn}
+use Rattle.civil_core.specs.declared.months.CivilMonth.{CivilMonth}
+use Rattle.civil_core.specs.Months.{IsMonth, IsDayIn}
 
 pub weekday_of-on : (d : ℤ) (n : ℕ) → weekday_of (d +ℤ pos n) ≡ (weekday_of d + n + 6) % 7 + 1
 unfolding weekday_of
@@ -36,7 +36,7 @@ befores-most leap n h =
     omega (arith, mono (days_of_months leap) (days_of_months-step leap) n 11 h, days_of_eleven_most leap)
 
 -- what is left follows
-pub month-from : (r : MonthPlace) → IsInRange 1 12 r.month → r.leap ≡ is_leap r.year → r.first
+pub month-from : (r : CivilMonth) → IsInRange 1 12 r.month → r.leap ≡ is_leap r.year → r.first
     ≡ day_number r.year r.month 1 → r.weekday ≡ weekday_of r.first → r.len
     ≡ month_len r.leap r.month → r.before ≡ days_of_months r.leap (r.month - 1) → IsMonth r
 month-from r month leap first weekday len before =
@@ -58,7 +58,7 @@ leap-of-len y n e =
     rw e (elim (is_leap y) as (λ b. nat_eq (cond b 366 365) 366 ≡ b) [ true ↦ refl | false ↦ refl ])
 
 -- the month of a day
-pub month-of-day : (r : MonthPlace) (d : ℤ) → r.year ≡ year_of d → r.month ≡ month_of d → r.leap
+pub month-of-day : (r : CivilMonth) (d : ℤ) → r.year ≡ year_of d → r.month ≡ month_of d → r.leap
     ≡ is_leap (year_of d) → r.first +ℤ pos (day_of_month d - 1) ≡ d → r.weekday
     ≡ (weekday_of d + 34 - (day_of_month d - 1)) % 7 + 1 → r.len
     ≡ month_len (is_leap (year_of d)) (month_of d) → r.before + day_of_month d
@@ -85,7 +85,7 @@ month-of-day r d year month leap first weekday len before =
     (rw (leap, month) len) (rw (leap, month) passed)
 
 -- the next month of a year
-pub month-later : (m r : MonthPlace) → IsMonth m → m.month < 12 → r.year ≡ m.year → r.month
+pub month-later : (m r : CivilMonth) → IsMonth m → m.month < 12 → r.year ≡ m.year → r.month
     ≡ m.month + 1 → r.leap ≡ m.leap → r.first ≡ m.first +ℤ pos m.len → r.weekday
     ≡ (m.weekday + m.len + 6) % 7 + 1 → r.len ≡ month_len m.leap (m.month + 1) → r.before
     ≡ m.before + m.len → IsMonth r
@@ -106,7 +106,7 @@ month-later m r is below year month leap first weekday len before =
     (rw (leap, month, back) passed)
 
 -- January after December
-pub month-january : (m r : MonthPlace) → IsMonth m → m.month ≡ 12 → r.year ≡ m.year +ℤ pos 1
+pub month-january : (m r : CivilMonth) → IsMonth m → m.month ≡ 12 → r.year ≡ m.year +ℤ pos 1
     → r.month ≡ 1 → r.leap ≡ is_leap r.year → r.first ≡ m.first +ℤ pos m.len → r.weekday
     ≡ (m.weekday + m.len + 6) % 7 + 1 → r.len ≡ 31 → r.before ≡ 0 → IsMonth r
 month-january m r is last year month leap first weekday len before =
@@ -119,7 +119,7 @@ month-january m r is last year month leap first weekday len before =
     (rw month (before ∙ sym (days_of_months-zero r.leap)))
 
 -- the month before, by the next of it
-pub month-earlier : (m r : MonthPlace) → IsMonth m → 1 < m.month → r.year ≡ m.year → r.month + 1
+pub month-earlier : (m r : CivilMonth) → IsMonth m → 1 < m.month → r.year ≡ m.year → r.month + 1
     ≡ m.month → r.leap ≡ m.leap → r.first +ℤ pos r.len ≡ m.first → r.weekday
     ≡ (m.weekday + 34 - r.len) % 7 + 1 → r.len ≡ month_len m.leap r.month → r.before + r.len
     ≡ m.before → IsMonth r
@@ -144,7 +144,7 @@ month-earlier m r is above year month leap first weekday len before =
     (rw leap len) (rw leap passed)
 
 -- December before January
-pub month-december : (m r : MonthPlace) → IsMonth m → m.month ≡ 1 → r.year +ℤ pos 1 ≡ m.year
+pub month-december : (m r : CivilMonth) → IsMonth m → m.month ≡ 1 → r.year +ℤ pos 1 ≡ m.year
     → r.month ≡ 12 → r.leap ≡ is_leap r.year → r.first +ℤ pos 31 ≡ m.first → r.weekday
     ≡ (m.weekday + 3) % 7 + 1 → r.len ≡ 31 → r.before ≡ cond r.leap 335 334 → IsMonth r
 month-december m r is begins year month leap first weekday len before =
@@ -156,7 +156,7 @@ month-december m r is begins year month leap first weekday len before =
     (weekday ∙ ap (λ n. n % 7 + 1) shift ∙ rw is.weekday (sym (weekday_of-back m.first r.first 31 (omega arith) first)))
     (rw month len) (rw month (before ∙ sym (days_of_eleven r.leap)))
 
-pub before-earlier : (m : MonthPlace) (n : ℕ) → IsMonth m → 1 < m.month → n
+pub before-earlier : (m : CivilMonth) (n : ℕ) → IsMonth m → 1 < m.month → n
     ≡ month_len m.leap (m.month - 1) → n ≤ m.before
 before-earlier m n is above e =
     let ahead : suc (m.month - 1 - 1) ≡ m.month - 1 = omega (arith, above) in
@@ -164,7 +164,7 @@ before-earlier m n is above e =
     omega (arith, more, is.before, e)
 
 -- what day i of a month is
-pub day-in : (m : MonthPlace) (i : ℕ) → IsMonth m → i < m.len → IsDayIn m i (m.first +ℤ pos i)
+pub day-in : (m : CivilMonth) (i : ℕ) → IsMonth m → i < m.len → IsDayIn m i (m.first +ℤ pos i)
 day-in m i is below =
     let d = day_number m.year m.month (i + 1) in
     let here : m.len ≡ month_len (is_leap m.year) m.month = is.len

@@ -3,8 +3,8 @@ use Rattle.moment_core.proofs.FloorLemmas.{floor_arith}
 use Rattle.moment_core.proofs.DateLaws.{month_of-is}
 use Rattle.moment_core.specs.Calendar.{year_of}
 use Rattle.moment_core.specs.TimeOfDay.{day_of}
-use Rattle.sieve_core.proofs.MonthLemmas.{leap-of-len, month-of-day}
-use Rattle.sieve_core.proofs.months.month_at.Goals as goal
+use Rattle.civil_core.proofs.MonthLemmas.{leap-of-len, month-of-day}
+use Rattle.civil_core.proofs.months.month_at.Goals as goal
 
 pub overflow_sub-result-3 : goal.overflow_sub-result-3
 overflow_sub-result-3 c =
