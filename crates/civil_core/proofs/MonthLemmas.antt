@@ -33,7 +33,12 @@ days_of_eleven_most false = omega (arith, days_of_eleven false)
 
 befores-most : (leap : Bool) (n : ℕ) → n ≤ 11 → days_of_months leap n ≤ 335
 befores-most leap n h =
-    omega (arith, mono (days_of_months leap) (days_of_months-step leap) n 11 h, days_of_eleven_most leap)
+    omega (
+      arith,
+      mono (days_of_months leap)
+          (days_of_months-step leap) n 11 h,
+      days_of_eleven_most leap,
+    )
 
 -- what is left follows
 pub month-from : (r : CivilMonth) → IsInRange 1 12 r.month → r.leap ≡ is_leap r.year → r.first
@@ -81,7 +86,8 @@ month-of-day r d year month leap first weekday len before =
       before,
     ) in
     month-from r (rw month is.0) (rw year leap) (rw (year, month) start)
-    (weekday ∙ sym (weekday_of-back d r.first (day_of_month d - 1) (omega (arith, day, within, long)) first))
+    (weekday ∙ sym (weekday_of-back d r.first (day_of_month d - 1) (omega
+    (arith, day, within, long)) first))
     (rw (leap, month) len) (rw (leap, month) passed)
 
 -- the next month of a year
@@ -100,7 +106,8 @@ month-later m r is below year month leap first weekday len before =
     ∙ sym (day_number-next_month m.year m.month low ∙ rw (is.first, here) refl) in
     let passed : r.before ≡ days_of_months m.leap m.month = before
     ∙ sym (more ∙ rw (is.before, is.len) refl) in
-    month-from r (rw month (omega arith, omega (arith, below))) (leap ∙ is.leap ∙ ap is_leap (sym year))
+    month-from r (rw month (omega arith, omega (arith, below))) (leap ∙ is.leap ∙ ap is_leap
+    (sym year))
     (rw (year, month) start)
     (weekday ∙ rw (first, is.weekday) (sym (weekday_of-on m.first m.len))) (rw (leap, month) len)
     (rw (leap, month, back) passed)
@@ -135,8 +142,10 @@ month-earlier m r is above year month leap first weekday len before =
     let next : m.first ≡ day_number m.year r.month 1 +ℤ pos r.len = is.first
     ∙ rw (← month) (day_number-next_month m.year r.month low ∙ rw here refl) in
     let start : r.first ≡ day_number m.year r.month 1 = omega (arith, floor_arith, first, next) in
-    let total : m.before ≡ days_of_months m.leap r.month = is.before ∙ ap (days_of_months m.leap) back in
-    let passed : r.before ≡ days_of_months m.leap (r.month - 1) = omega (arith, before, total, more, len) in
+    let total : m.before ≡ days_of_months m.leap r.month = is.before ∙ ap
+    (days_of_months m.leap) back in
+    let passed : r.before ≡ days_of_months m.leap (r.month - 1) = omega
+    (arith, before, total, more, len) in
     month-from r (low, omega (arith, month, high)) (leap ∙ is.leap ∙ ap is_leap (sym year))
     (rw year start)
     (weekday
@@ -153,7 +162,8 @@ month-december m r is begins year month leap first weekday len before =
     let start : r.first ≡ day_number r.year 12 1 = omega (arith, floor_arith, first, next) in
     let shift : m.weekday + 3 ≡ m.weekday + 34 - 31 = omega arith in
     month-from r (rw month (omega arith, omega arith)) leap (rw month start)
-    (weekday ∙ ap (λ n. n % 7 + 1) shift ∙ rw is.weekday (sym (weekday_of-back m.first r.first 31 (omega arith) first)))
+    (weekday ∙ ap (λ n. n % 7 + 1) shift ∙ rw is.weekday (sym (weekday_of-back m.first r.first 31
+    (omega arith) first)))
     (rw month len) (rw month (before ∙ sym (days_of_eleven r.leap)))
 
 pub before-earlier : (m : CivilMonth) (n : ℕ) → IsMonth m → 1 < m.month → n

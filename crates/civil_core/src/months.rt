@@ -10,8 +10,8 @@ use moment_core::{Moment, Weekday};
 
 /// A month of the proleptic Gregorian calendar.
 ///
-/// One that `month_at` gives, and those that `later` and `earlier` lead to, are whole (`IsMonth`), up
-/// to some years past the working range (`IsNearMonth`).
+/// One that `month_at` gives, and those that `later` and `earlier` lead to from there, are whole
+/// (`IsMonth`). They may lie a little past the working range (`IsNearMonth`).
 #[derive(Clone, Copy)]
 pub struct CivilMonth {
     pub year: i64,

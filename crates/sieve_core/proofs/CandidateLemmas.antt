@@ -64,7 +64,8 @@ not-between-high : (s : Sieve) (t : ℤ) → s.last.0 <ℤ t → is_between s t 
 unfolding is_between
 not-between-high s t above = grind (arith, floor_arith)
 
-pub near-later : (s : Sieve) (dir : Dir) (w u : ℤ) (k : ℕ) → u ≡ ahead dir w k → IsPastNearEnd s dir w
+pub near-later : (s : Sieve) (dir : Dir) (w u : ℤ) (k : ℕ) → u ≡ ahead dir w k
+    → IsPastNearEnd s dir w
     → IsPastNearEnd s dir u
 near-later s Fore w u k e near = omega (arith, floor_arith)
 near-later s Back w u k e near = omega (arith, floor_arith)

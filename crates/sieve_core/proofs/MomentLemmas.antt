@@ -35,7 +35,8 @@ pub turned_day-below : (dir : Dir) (t : ℤ) → turn dir 86_400 (second_of_day 
 turned_day-below Fore t = omega (arith, floor_arith)
 turned_day-below Back t = omega arith
 
-place-by_days : (dir : Dir) (t u : ℤ) (q m : ℕ) → day_of u ≡ ahead dir (day_of t) q → second_of_day u
+place-by_days : (dir : Dir) (t u : ℤ) (q m : ℕ) → day_of u ≡ ahead dir (day_of t) q
+    → second_of_day u
     ≡ turn dir 86_400 m → m < 86_400 → turn dir 86_400 (second_of_day t) ≤ 86_400 * q + m → u
     ≡ ahead dir t (86_400 * q + m - turn dir 86_400 (second_of_day t))
 place-by_days Fore t u q m day second below low = omega (arith, floor_arith)
@@ -63,7 +64,8 @@ working-by_day u e =
 pub met-working : (s : Sieve) (u : ℤ) → is_sought_moment s u ≡ true → IsWorkingMoment u
 met-working s u e = working-by_day u (sought-parts s (day_of u) (met-parts s u e).0).0
 
-pub none-met : (s : Sieve) (dir : Dir) (t : ℤ) → NoDaySought s dir (day_of t) → NoMomentSought s dir t
+pub none-met : (s : Sieve) (dir : Dir) (t : ℤ) → NoDaySought s dir (day_of t)
+    → NoMomentSought s dir t
 none-met s dir t none k =
     let n = turn dir 86_400 (second_of_day t) + k in
     met-by_days s dir t k (n / 86_400) (n % 86_400) (omega arith) (omega arith)
@@ -80,16 +82,19 @@ nearest-met s dir t d u m days day second below low met none =
     let from = turn dir 86_400 (second_of_day t) in
     let q = days.steps in
     let sought : is_sought_day s (day_of u) ≡ true = rw day days.meets in
-    let time : meets_time s (second_of_day u) ≡ true = rw second (sym (meets_second-is s dir m below) ∙ met) in
+    let time : meets_time s (second_of_day u) ≡ true = rw second (sym
+    (meets_second-is s dir m below) ∙ met) in
     record {
       steps = 86_400 * q + m - from;
       place = place-by_days dir t u q m (day ∙ days.place) second below low;
       meets = and_from (is_sought_day s (day_of u)) (meets_time s (second_of_day u)) sought time;
       none_before = λ k early.
-          met-by_days s dir t k ((from + k) / 86_400) ((from + k) % 86_400) (omega arith) (omega arith)
+          met-by_days s dir t k ((from + k) / 86_400) ((from + k) % 86_400) (omega arith)
+          (omega arith)
           ∙ elim (cases_lt ((from + k) / 86_400) q) [
             | inl before ↦ and_left _ _ (days.none_before ((from + k) / 86_400) before)
-            | inr late ↦ and_right _ _ (none ((from + k) % 86_400) (omega (arith, early, late, below))
+            | inr late ↦ and_right _ _ (none ((from + k) % 86_400) (omega
+                (arith, early, late, below))
                 (omega (arith, early, late, below)))
           ];
     }
@@ -102,20 +107,24 @@ pub nearest-same_day : (s : Sieve) (dir : Dir) (t d u : ℤ) (n : ℕ) → IsNea
 nearest-same_day s dir t d u n days same day second least =
     let none : days.steps ≡ 0 = same-steps dir (day_of t) d days.steps 0 days.place
     (same ∙ sym (ahead-zero dir (day_of t))) in
-    nearest-met s dir t d u n days day second least.high (omega (arith, none, least.low)) least.meets
+    nearest-met s dir t d u n days day second least.high (omega
+    (arith, none, least.low)) least.meets
     (λ r from early. least.none_before r (omega (arith, none, from)) early)
 
 -- on a later day
-pub nearest-later_day : (s : Sieve) (dir : Dir) (t d u : ℤ) (n : ℕ) → IsNearest (is_sought_day s) dir
+pub nearest-later_day : (s : Sieve) (dir : Dir) (t d u : ℤ) (n : ℕ) → IsNearest
+    (is_sought_day s) dir
     (day_of t) d → (d ≡ day_of t → ⊥) → day_of u ≡ d → second_of_day u ≡ turn dir 86_400 n
     → IsLeast (meets_second s dir) 0 86_400 n → turn dir 86_400 (second_of_day t) < 86_400
     → IsNearest (is_sought_moment s) dir t u
 nearest-later_day s dir t d u n days other day second least within =
     elim (cases_lt 0 days.steps) [
-      | inl some ↦ nearest-met s dir t d u n days day second least.high (omega (arith, some, within)) least.meets
+      | inl some ↦ nearest-met s dir t d u n days day second least.high (omega
+          (arith, some, within)) least.meets
           (λ r from early. least.none_before r (omega arith) early)
       | inr none ↦ (let zero_steps : days.steps ≡ 0 = omega (arith, none) in
-          absurd (other (days.place ∙ ap (ahead dir (day_of t)) zero_steps ∙ ahead-zero dir (day_of t))))
+          absurd (other (days.place ∙ ap (ahead dir (day_of t)) zero_steps ∙ ahead-zero dir
+          (day_of t))))
     ]
 
 pub least-not_none : (f : ℕ → Bool) (from end n : ℕ) → IsLeast f from end n
@@ -135,14 +144,16 @@ seen-from : (test : ℤ → Bool) (dir : Dir) (t w : ℤ) (m k : ℕ) → w ≡ 
 seen-from test dir t w m k place h = ap test (ahead-from dir t w m k place h)
 
 pub nearest-from : (test : ℤ → Bool) (dir : Dir) (t w u : ℤ) (m : ℕ) → w ≡ ahead dir t m
-    → ((k : ℕ) → k < m → seen test dir t k ≡ false) → IsNearest test dir w u → IsNearest test dir t u
+    → ((k : ℕ) → k < m → seen test dir t k ≡ false) → IsNearest test dir w u
+    → IsNearest test dir t u
 nearest-from test dir t w u m place none near = record {
   steps = m + near.steps;
   place = near.place ∙ rw place (ahead-ahead dir t m near.steps);
   meets = near.meets;
   none_before = λ k below. elim (cases_lt k m) [
     | inl early ↦ none k early
-    | inr late ↦ seen-from test dir t w m k place late ∙ near.none_before (k - m) (omega (arith, below, late))
+    | inr late ↦ seen-from test dir t w m k place late ∙ near.none_before (k - m) (omega
+        (arith, below, late))
   ];
 }
 
@@ -179,12 +190,14 @@ none-same_day s dir t from e none k below =
 next-day : (dir : Dir) (t w : ℤ) (from : ℕ) → from ≡ turn dir 86_400 (second_of_day t)
     → from < 86_400 → w ≡ ahead dir t (86_400 - from) → day_of w ≡ ahead dir (day_of t) 1
 next-day dir t w from e below place =
-    ap day_of place ∙ (ahead-by_days dir t (86_400 - from) 1 0 (omega (arith, e, below)) (omega arith)).0
+    ap day_of place ∙ (ahead-by_days dir t (86_400 - from) 1 0 (omega (arith, e, below))
+    (omega arith)).0
 
 unsought-past : (s : Sieve) (dir : Dir) (d : ℤ) (k : ℕ) → is_working_day d ≡ true
     → is_working_day (ahead dir d 1) ≡ false → 1 ≤ k → seen (is_sought_day s) dir d k ≡ false
 unfolding is_sought_day
-unsought-past s dir d k here past h = and_left _ _ (and_left _ _ (and_left _ _ (working_day-past dir d 1 k here past h)))
+unsought-past s dir d k here past h = and_left _ _ (and_left _ _ (and_left _ _
+    (working_day-past dir d 1 k here past h)))
 
 -- and the working range ends with it
 pub none-past : (s : Sieve) (dir : Dir) (t w : ℤ) (from : ℕ) → IsWorkingMoment t → from
@@ -200,8 +213,10 @@ none-past s dir t w from working e below none place closed k =
     ] in
     elim (cases_lt k (86_400 - from)) [
       | inl early ↦ none-same_day s dir t from e none k early
-      | inr late ↦ met-by_days s dir t k ((from + k) / 86_400) ((from + k) % 86_400) (omega (arith, e)) (omega arith)
-          ∙ and_left _ _ (unsought-past s dir (day_of t) ((from + k) / 86_400) (working_day-of t working)
+      | inr late ↦ met-by_days s dir t k ((from + k) / 86_400) ((from + k) % 86_400) (omega
+          (arith, e)) (omega arith)
+          ∙ and_left _ _ (unsought-past s dir (day_of t) ((from + k) / 86_400)
+          (working_day-of t working)
           past (omega (arith, late, below)))
     ]
 
@@ -229,14 +244,16 @@ sought-from : (s : Sieve) (d : ℤ) → is_working_day d ≡ true → meets_days
     → month_turn s.unit s.interval s.phase (year_of d) (month_of d) ≡ true
     → day_turn s.unit s.interval s.phase d ≡ true → is_sought_day s d ≡ true
 unfolding is_sought_day
-sought-from s d working days month day = and_from _ _ (and_from _ _ (and_from _ _ working days) month) day
+sought-from s d working days month day = and_from _ _ (and_from _ _
+    (and_from _ _ working days) month) day
 
 -- a member is met
 member-parts : (s : Sieve) (u : ℤ) → has s u ≡ true → (meets_tests s u ≡ true)
     × (meets_interval s u ≡ true)
 unfolding has meets_rule
 member-parts s u e =
-    let rule = and_parts (is_between s u) (meets_tests s u && meets_interval s u && meets_rank s u) e in
+    let rule = and_parts (is_between s u) (meets_tests s u && meets_interval s u
+    && meets_rank s u) e in
     let turn = and_parts (meets_tests s u && meets_interval s u) (meets_rank s u) rule.1 in
     and_parts (meets_tests s u) (meets_interval s u) turn.0
 
@@ -284,7 +301,8 @@ pub reached-start : (s : Sieve) (dir : Dir) (t w : ℤ) → IsWorkingMoment t �
 reached-start s dir t w working begins = record {
   gap = begins.gap;
   place = begins.place;
-  none_before = λ k some high within. not-between s (ahead dir t k) (begins.none_before k some high);
+  none_before = λ k some high within. not-between s (ahead dir t k)
+      (begins.none_before k some high);
   near = begins.near;
   working = working;
 }
@@ -302,11 +320,13 @@ none-left-closed s dir t w at closed = λ k some within.
     ]
 
 -- nor where nothing is met
-pub none-left-unmet : (s : Sieve) (dir : Dir) (t w : ℤ) → IsReached s dir t w → NoMomentSought s dir w
+pub none-left-unmet : (s : Sieve) (dir : Dir) (t w : ℤ) → IsReached s dir t w
+    → NoMomentSought s dir w
     → NoCandidateLeft (has s) dir t
 none-left-unmet s dir t w at none = λ k some within.
     elim (cases_lt at.gap k) [
-      | inl late ↦ no-member s (ahead dir t k) within (seen-from (is_sought_moment s) dir t w (at.gap + 1) k
+      | inl late ↦ no-member s (ahead dir t k) within (seen-from (is_sought_moment s) dir t w
+          (at.gap + 1) k
           at.place (omega (arith, late)) ∙ none (k - (at.gap + 1)))
       | inr early ↦ at.none_before k some early within
     ]
@@ -317,8 +337,10 @@ clear-to_met : (s : Sieve) (dir : Dir) (t w u : ℤ) (at : IsReached s dir t w)
     → IsWorkingMoment (ahead dir t k) → seen (has s) dir t k ≡ false
 clear-to_met s dir t w u at near k some below within =
     elim (cases_lt at.gap k) [
-      | inl late ↦ no-member s (ahead dir t k) within (seen-from (is_sought_moment s) dir t w (at.gap + 1) k
-          at.place (omega (arith, late)) ∙ near.none_before (k - (at.gap + 1)) (omega (arith, late, below)))
+      | inl late ↦ no-member s (ahead dir t k) within (seen-from (is_sought_moment s) dir t w
+          (at.gap + 1) k
+          at.place (omega (arith, late)) ∙ near.none_before (k - (at.gap + 1)) (omega
+          (arith, late, below)))
       | inr early ↦ at.none_before k some early within
     ]
 
@@ -328,13 +350,15 @@ met-place s dir t w u at near = near.place ∙ rw at.place (ahead-ahead dir t (a
 
 -- nothing lies past one that isn't between the ends
 pub none-left-met : (s : Sieve) (dir : Dir) (t w u : ℤ) → IsReached s dir t w
-    → IsNearest (is_sought_moment s) dir w u → is_between s u ≡ false → NoCandidateLeft (has s) dir t
+    → IsNearest (is_sought_moment s) dir w u → is_between s u ≡ false → NoCandidateLeft
+    (has s) dir t
 none-left-met s dir t w u at near outside = λ k some within.
     let n = at.gap + 1 + near.steps in
     let place = met-place s dir t w u at near in
     elim (cases_lt k n) [
       | inl early ↦ clear-to_met s dir t w u at near k some early within
-      | inr late ↦ not-between s (ahead dir t k) (closed-past s dir t u (ahead dir t k) n (k - n) at.working place
+      | inr late ↦ not-between s (ahead dir t k) (closed-past s dir t u (ahead dir t k) n
+          (k - n) at.working place
           (near-later s dir w u near.steps near.place at.near)
           (λ inside. true≢false (sym inside.1 ∙ outside))
           (ahead-from dir t u n k place late) within)
@@ -355,7 +379,8 @@ next-member s dir t w u at near between turn =
           later = omega arith;
           meets = rw (← place) (met-member s u near.meets between turn);
           none_before = λ k some below. clear-to_met s dir t w u at near k some below
-              (working-between dir t k (at.gap + 1 + near.steps) at.working (rw (← place) working) (omega (arith, below)));
+              (working-between dir t k (at.gap + 1 + near.steps) at.working (rw (← place) working)
+              (omega (arith, below)));
         },
       ),
     )
@@ -379,6 +404,9 @@ reached-past s dir t w u v at near turn on =
     }
 
 pub moments-fewer : (s : Sieve) (dir : Dir) (w u v : ℤ) → IsWorkingMoment w → IsWorkingMoment u
-    → IsNearest (is_sought_moment s) dir w u → v ≡ ahead dir u 1 → moments_left dir v < moments_left dir w
-moments-fewer s Fore w u v here there near on = omega (arith, floor_arith, here, there, near.place, on)
-moments-fewer s Back w u v here there near on = omega (arith, floor_arith, here, there, near.place, on)
+    → IsNearest (is_sought_moment s) dir w u → v ≡ ahead dir u 1
+    → moments_left dir v < moments_left dir w
+moments-fewer s Fore w u v here there near on = omega
+    (arith, floor_arith, here, there, near.place, on)
+moments-fewer s Back w u v here there near on = omega
+    (arith, floor_arith, here, there, near.place, on)

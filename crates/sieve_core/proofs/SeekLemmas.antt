@@ -89,7 +89,8 @@ days_turn-one u n phase y m d e =
     (day_turn-one u phase d))
 
 pub sought-all : (s : Sieve) (d : ℤ) → is_working_day d ≡ true → meets_days s.days d ≡ true
-    → days_turn s.unit s.interval s.phase (year_of d) (month_of d) d ≡ true → is_sought_day s d ≡ true
+    → days_turn s.unit s.interval s.phase (year_of d) (month_of d) d ≡ true → is_sought_day s d
+    ≡ true
 unfolding is_sought_day
 sought-all s d working days turns =
     let parts = and_parts (month_turn s.unit s.interval s.phase (year_of d) (month_of d))
@@ -121,7 +122,8 @@ open-months s m i d day e =
     let parts = and_parts _ (month_turn s.unit s.interval s.phase m.year m.month) e in
     (rw day.month parts.0, rw (day.year, day.month) parts.1)
 
-month-of-days : (s : Sieve) (d : ℤ) → meets_days s.days d ≡ true → meets_months s.days.months d ≡ true
+month-of-days : (s : Sieve) (d : ℤ) → meets_days s.days d ≡ true → meets_months s.days.months d
+    ≡ true
 unfolding meets_days
 month-of-days s d e =
     let a = and_parts _ _ e in
@@ -152,7 +154,8 @@ unfolding meets_months
 months-by-number s m i d day e = rw (← day.month) e
 
 -- no day of a month that isn't open is sought
-opened-month : (s : Sieve) (m : CivilMonth) (i : ℕ) (d : ℤ) → IsDayIn m i d → is_sought_day s d ≡ true
+opened-month : (s : Sieve) (m : CivilMonth) (i : ℕ) (d : ℤ) → IsDayIn m i d → is_sought_day s d
+    ≡ true
     → is_month_open s m.year m.month ≡ true
 opened-month s m i d day met =
     let parts = sought-parts s d met in
@@ -231,7 +234,8 @@ reached-clear : (s : Sieve) (dir : Dir) (d : ℤ) (m : CivilMonth) (from end : �
 reached-clear s dir d m from end at low high none k below =
     elim (cases_lt k at.steps) [
       | inl early ↦ at.none_before k early
-      | inr late ↦ (let whole : at.steps + (from + (k - at.steps) - from) ≡ k = omega (arith, late) in
+      | inr late ↦ (let whole : at.steps + (from + (k - at.steps) - from) ≡ k = omega
+          (arith, late) in
           let place = reached-place s dir d m from (from + (k - at.steps)) at (omega arith)
           (omega (arith, below, late, low, high)) in
           ap (is_sought_day s) (sym (place ∙ ap (ahead dir d) whole))
@@ -252,14 +256,18 @@ reached-found s dir d u m from i at least e = record {
 near-first : (dir : Dir) (m r : CivilMonth) → day_at r dir 0
     ≡ ahead dir (day_at m dir (m.len - 1)) 1 → IsNearMonth m → IsMonth r → IsMonth m
     → neg_ℤ (pos 4_500_000) ≤ℤ r.first
-near-first Fore m r place near is was = omega (arith, floor_arith, place, near.low, is.lens, was.lens)
-near-first Back m r place near is was = omega (arith, floor_arith, place, near.low, is.lens, was.lens)
+near-first Fore m r place near is was = omega
+    (arith, floor_arith, place, near.low, is.lens, was.lens)
+near-first Back m r place near is was = omega
+    (arith, floor_arith, place, near.low, is.lens, was.lens)
 
 near-last : (dir : Dir) (m r : CivilMonth) → day_at r dir 0
     ≡ ahead dir (day_at m dir (m.len - 1)) 1 → IsNearMonth m → IsMonth r → IsMonth m → r.first ≤ℤ
     pos 4_500_000
-near-last Fore m r place near is was = omega (arith, floor_arith, place, near.high, is.lens, was.lens)
-near-last Back m r place near is was = omega (arith, floor_arith, place, near.high, is.lens, was.lens)
+near-last Fore m r place near is was = omega
+    (arith, floor_arith, place, near.high, is.lens, was.lens)
+near-last Back m r place near is was = omega
+    (arith, floor_arith, place, near.high, is.lens, was.lens)
 
 pub reached-next : (s : Sieve) (dir : Dir) (d : ℤ) (m r : CivilMonth) (from : ℕ)
     → IsDayReached s dir d m from → IsLeastIn (sought_at s m dir) from m.len None → IsMonth r
@@ -275,7 +283,8 @@ reached-next s dir d m r from at none is place near =
       steps = at.steps + (m.len - from);
       place = place ∙ rw last (ahead-ahead dir d (at.steps + (m.len - 1 - from)) 1
           ∙ ap (ahead dir d) whole);
-      none_before = reached-clear s dir d m from m.len at (omega (arith, within)) (omega arith) none;
+      none_before = reached-clear s dir d m from m.len at (omega (arith, within))
+          (omega arith) none;
       month = is;
       within = omega (arith, is.lens);
       working = at.working;
@@ -301,7 +310,8 @@ near-month m dir i is below working =
     let inside = turned-within dir m.len i below in
     let day = day-in m (turn dir m.len i) is inside in
     let at = seconds-parts (day_at m dir i) 0 (omega arith) in
-    let years = rw (at.0, day.year) at (years-of_working_moment (day_at m dir i *ℤ pos 86_400 +ℤ pos 0)
+    let years = rw (at.0, day.year) at (years-of_working_moment
+    (day_at m dir i *ℤ pos 86_400 +ℤ pos 0)
     (omega (arith, floor_arith, parts), omega (arith, floor_arith, parts))) in
     record {
       low = omega (arith, floor_arith, parts, is.lens, inside);

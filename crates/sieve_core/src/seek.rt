@@ -246,7 +246,8 @@ impl Sieve {
 
     // Whether every day of the working range is one to stop at.
     fn seeks_all(&self) -> bool
-        ensures { result ≡ true → (d : ℤ) → is_working_day d ≡ true → is_sought_day self.now d ≡ true }
+        ensures { result ≡ true → (d : ℤ) → is_working_day d ≡ true →
+            is_sought_day self.now d ≡ true }
     {
         self.takes_all_days() && self.days.is_free()
     }

@@ -15,8 +15,11 @@ overflow_add-result c =
 
 pub returns-clause-working : goal.returns-clause-working
 returns-clause-working c =
-    let w = working_day-parts c.args.day c.requires.day in
-    (omega (arith, floor_arith, w, c.requires.second), omega (arith, floor_arith, w, c.requires.second))
+    let w = working_day-parts c.args.day c.requires.day in (
+      omega (arith, floor_arith, w, c.requires.second),
+      omega
+          (arith, floor_arith, w, c.requires.second),
+    )
 
 pub returns-clause-day : goal.returns-clause-day
 returns-clause-day c =

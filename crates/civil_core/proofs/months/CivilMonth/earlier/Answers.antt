@@ -28,6 +28,7 @@ returns-else-self-eq1-clause-month c =
     (omega (arith, c.requires.month.month, c.if-self-eq1.false)) c.month_len-len.ensures.value in
     month-earlier c.args.self.now _ c.requires.month
     (omega (arith, c.requires.month.month, c.if-self-eq1.false))
-    (omega (arith, floor_arith, c.requires.near)) (omega (arith, c.requires.month.month, c.if-self-eq1.false)) refl
+    (omega (arith, floor_arith, c.requires.near)) (omega
+    (arith, c.requires.month.month, c.if-self-eq1.false)) refl
     (omega (arith, floor_arith, c.requires.near, c.month_len-len.ensures.within)) refl
     c.month_len-len.ensures.value (omega (arith, before))

@@ -5,7 +5,8 @@ use Rattle.sieve_core.proofs.tables.Sieve.is_month_in_turn.Goals as goal
 pub returns-in-Month : goal.returns-in-Month
 returns-in-Month c =
     let m = c.args.month.now in
-    let number : to_z w64 (of_z w64 c.number.result) ≡ m.year *ℤ pos 12 +ℤ pos (m.month - 1) = omega (
+    let number : to_z w64 (of_z w64 c.number.result) ≡ m.year *ℤ pos 12 +ℤ pos
+    (m.month - 1) = omega (
       arith,
       floor_arith,
       c.number.ensures.value,

@@ -17,13 +17,16 @@ returns-in-None-clause-none c = none-times c.args.self.now c.args.dir c.args.t.0
 pub returns-in-Some-clause-some : goal.returns-in-Some-clause-some
 returns-in-Some-clause-some c =
     IfSome_then c.next_moment_from.result c.next_moment_from.ensures.some (λ u near.
-    nearest-from (is_sought_moment c.args.self.now) c.args.dir c.args.t.0 c.steps_on-next.result.0 u.0 _
+    nearest-from (is_sought_moment c.args.self.now) c.args.dir c.args.t.0
+    c.steps_on-next.result.0 u.0 _
     c.steps_on-next.ensures
-    (none-same_day c.args.self.now c.args.dir c.args.t.0 c.args.from c.requires.from c.requires.none) near)
+    (none-same_day c.args.self.now c.args.dir c.args.t.0 c.args.from c.requires.from
+    c.requires.none) near)
 
 pub returns-in-Some-clause-none : goal.returns-in-Some-clause-none
 returns-in-Some-clause-none c =
     if-none_then c.next_moment_from.result c.next_moment_from.ensures.none (λ none.
     none-from (is_sought_moment c.args.self.now) c.args.dir c.args.t.0 c.steps_on-next.result.0 _
     c.steps_on-next.ensures
-    (none-same_day c.args.self.now c.args.dir c.args.t.0 c.args.from c.requires.from c.requires.none) none)
+    (none-same_day c.args.self.now c.args.dir c.args.t.0 c.args.from c.requires.from
+    c.requires.none) none)

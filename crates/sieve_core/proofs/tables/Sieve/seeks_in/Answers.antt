@@ -13,7 +13,8 @@ returns-then-not-meets_date_in c =
     let opened = open-months c.args.self.now m c.args.i d day c.requires.open_month in
     let dates = c.meets_date_in.ensures d day opened.0 in
     sym (sought-not-dates c.args.self.now d
-    (meets_weeks c.args.self.now.days.weeks c.args.self.now.days.first d) (rw c.if-not-meets_date_in.true at dates))
+    (meets_weeks c.args.self.now.days.weeks c.args.self.now.days.first d)
+    (rw c.if-not-meets_date_in.true at dates))
 
 pub returns : goal.returns
 returns c =
