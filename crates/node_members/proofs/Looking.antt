@@ -1,5 +1,5 @@
 -- Looking back from a position: what was seen on the way, and why it may stop.
-use Rattle.std.proofs.Common.{◌≡◌, ◌⊎◌, refl, ap, sym, subst, ◌∙◌, inl, inr, arith, ℕ, ◌+◌, ◌<◌, ◌≤◌, ℤ, pos, ◌+ℤ◌, ◌-ℤ◌, ◌≤ℤ◌, ◌<ℤ◌, unsigned_abs, Bool, true, false, Some, None}
+use Rattle.std.proofs.Common.{◌≡◌, ◌⊎◌, refl, ap, sym, ◌∙◌, inl, inr, arith, ℕ, ◌+◌, ◌≤◌, ℤ, pos, ◌+ℤ◌, ◌-ℤ◌, ◌≤ℤ◌, ◌<ℤ◌, unsigned_abs, Bool, true, false, Some, None, Result, Ok, Err, IfErr, IfOk}
 use Rattle.std.proofs.lemmas.Bool.{both_ways, cases_Bool, or_parts, false_from_ne_true}
 use Rattle.std.proofs.lemmas.Int.{by_lt_z, ints}
 use Rattle.moment_core.specs.Line.{is_moment, moment_of, position_of}
@@ -14,84 +14,26 @@ use Rattle.expr_tree.specs.Laws.{IsBetween, IsBetweenMoments, IsLasting, LastsFr
 use Rattle.expr_tree.specs.Members.{is_between, is_member, lasts_at}
 use Rattle.expr_tree.specs.Sorts.{nodes_of}
 use Rattle.expr_tree.specs.Sound.{HasMomentsAlone}
-use Rattle.expr_tree.specs.Tree.{Tree, Empty, Spanned, Ruled, Joined, Pairs, Unary}
+use Rattle.expr_tree.specs.Tree.{Tree, Pairs, Unary}
 use Rattle.search_core.specs.Candidates.{candidates, count_between, is_candidate}
-use Rattle.search_core.specs.Due.{IsDueAt, StopsBack}
+use Rattle.search_core.specs.Due.{IsDueAt}
 use Rattle.search_core.specs.Laws.{DurationsLookBack, PairsLookBack, PlacesAreFewer}
 use Rattle.search_core.specs.LookingBack.{during_from, either, pairs_from}
-use Rattle.search_core.specs.Unary.{looks_from}
 use Rattle.node_turns.specs.Turns.{IsTurn, StandsIfCounted, StaysCounted}
 use Rattle.node_turns.specs.declared.turns.Turn.{Turn}
-use Rattle.node_members.specs.Looking.{IsLook, IsNextLook, candidate_of_either, in_either}
+use Rattle.node_members.specs.Looking.{IsAskedAt, IsLook, IsLookFrom, candidate_of_either, in_either}
 use Rattle.node_members.specs.declared.looks.Look.{Look}
 
--- the stop of a tree whose root has a greater number
-pub Due-numbered : (t : Tree Meaning) (n m k budget : ℕ) (s r : Stop) (q : ℤ) → m ≡ n + k
-    → r.node ≡ s.node + k → r.at ≡ s.at → IsDueAt t n budget s q → IsDueAt t m budget r q
-Due-numbered Empty n m k budget s r q e node at due = absurd due
-Due-numbered (Spanned bounds x y) n m k budget s r q e node at due = absurd due
-Due-numbered (Ruled rule) n m k budget s r q e node at due = absurd due
-Due-numbered (Joined op x y) n m k budget s r q e node at due = elim due [
-  | inl one ↦ inl (Due-numbered x (n + 1) (m + 1) k budget s r q (omega arith) node at one)
-  | inr other ↦ inr (Due-numbered y (n + 1 + nodes_of x) (m + 1 + nodes_of x) k budget s r q
-      (omega arith) node at other)
-]
-Due-numbered (Pairs x y) n m k budget s r q e node at due = elim due [
-  | inl own ↦ inl (
-    (let number : s.node ≡ n = own.0 in omega arith),
-    subst (λ (p : Pos). StopsBack (either (is_member x) (is_member y)) (candidates (Pairs x y))
-        (pairs_from (is_member x) (is_member y) q) q budget p.0) (sym at) own.1,
-  )
-  | inr inner ↦ inr (
-    inner.0,
-    inner.1,
-    inner.2,
-    elim inner.3 [
-      | inl one ↦ inl (Due-numbered x (n + 1) (m + 1) k budget s r inner.0 (omega arith) node at
-          one)
-      | inr other ↦ inr (Due-numbered y (n + 1 + nodes_of x) (m + 1 + nodes_of x) k budget s r
-          inner.0 (omega arith) node at other)
-    ],
-  )
-]
-Due-numbered (Unary op x) n m k budget s r q e node at due = elim due [
-  | inl own ↦ inl (
-    own.0,
-    (let number : s.node ≡ n = own.1 in omega arith),
-    subst (λ (p : Pos). StopsBack (is_member x) (candidates (Unary op x))
-        (looks_from op (is_member x) q) q budget p.0) (sym at) own.2,
-  )
-  | inr inner ↦ inr (
-    inner.0,
-    inner.1,
-    inner.2,
-    Due-numbered x (n + 1) (m + 1) k budget s r inner.0
-        (omega arith) node at inner.3,
-  )
-]
+-- an answer tells whether the position is a member, or a stop that is due
+pub answer_value : (t : Tree Meaning) (n budget : ℕ) (p : ℤ) (answer : Result Bool Stop)
+    → IsAskedAt t n budget p answer → IfOk answer (λ v. v ≡ is_member t p)
+answer_value t n budget p (Ok v) h = h
+answer_value t n budget p (Err s) h = tt
 
--- the number of a stop is one of the tree's
-pub Due-below : (t : Tree Meaning) (n budget : ℕ) (s : Stop) (q : ℤ) → IsDueAt t n budget s q
-    → s.node < n + nodes_of t
-Due-below Empty n budget s q due = absurd due
-Due-below (Spanned bounds x y) n budget s q due = absurd due
-Due-below (Ruled rule) n budget s q due = absurd due
-Due-below (Joined op x y) n budget s q due = elim due [
-  | inl one ↦ (let below = Due-below x (n + 1) budget s q one in omega arith)
-  | inr other ↦ (let below = Due-below y (n + 1 + nodes_of x) budget s q other in omega arith)
-]
-Due-below (Pairs x y) n budget s q due = elim due [
-  | inl own ↦ (let number : s.node ≡ n = own.0 in omega arith)
-  | inr inner ↦ elim inner.3 [
-    | inl one ↦ (let below = Due-below x (n + 1) budget s inner.0 one in omega arith)
-    | inr other ↦ (let below = Due-below y (n + 1 + nodes_of x) budget s inner.0 other in
-        omega arith)
-  ]
-]
-Due-below (Unary op x) n budget s q due = elim due [
-  | inl own ↦ (let number : s.node ≡ n = own.1 in omega arith)
-  | inr inner ↦ (let below = Due-below x (n + 1) budget s inner.0 inner.3 in omega arith)
-]
+pub answer_due : (t : Tree Meaning) (n budget : ℕ) (p : ℤ) (answer : Result Bool Stop)
+    → IsAskedAt t n budget p answer → IfErr answer (λ s. IsDueAt t n budget s p)
+answer_due t n budget p (Ok v) h = tt
+answer_due t n budget p (Err s) h = h
 
 pub look : (event candidate : ℤ → Bool) (p : ℤ) (l : Look) → l.place.0 ≡ p → l.passed ≡ 0
     → IsLook event candidate p l
@@ -117,7 +59,7 @@ pub look_on : (event candidate : ℤ → Bool) (p end : ℤ) (l next : Look) (tu
     → IsLook event candidate p l → event l.place.0 ≡ false
     → IsTurn event Back l.place.0 end (Some turn) → StandsIfCounted candidate Back (Some turn)
     → next.place ≡ turn.place → StaysCounted l.passed Back p l.place.0 turn next.passed
-    → IsNextLook event candidate p l.place.0 end (Some next)
+    → IsLookFrom event candidate p end next × (next.place.0 <ℤ l.place.0)
 look_on event candidate p end l next turn looked none is stands same few =
     let n = looked.0 in
     let at : l.place.0 ≡ p -ℤ pos n = looked.1.place in
@@ -126,27 +68,29 @@ look_on event candidate p end l next turn looked none is stands same few =
     let far : turn.place.0 ≡ p -ℤ pos (n + (m + 1)) = omega (arith, ints) in
     let here : next.place.0 ≡ turn.place.0 = ap (λ (q : Pos). q.0) same in (
       (
-        n + (m + 1),
-        record {
-          place = here ∙ far;
-          none = λ z low high. by_lt_z l.place.0 z
-              (λ past. looked.1.none z past high)
-              (λ within. none_from event l.place.0 z m none is.1.stays within
-              (omega (arith, ints)));
-          counted =
-              few candidate n (n + (m + 1)) at far (omega arith) looked.1.counted looked.1.begun
-              stands;
-          begun = λ e. absurd (omega arith);
-        },
+        (
+          n + (m + 1),
+          record {
+            place = here ∙ far;
+            none = λ z low high. by_lt_z l.place.0 z
+                (λ past. looked.1.none z past high)
+                (λ within. none_from event l.place.0 z m none is.1.stays within
+                (omega (arith, ints)));
+            counted =
+                few candidate n (n + (m + 1)) at far (omega arith) looked.1.counted looked.1.begun
+                stands;
+            begun = λ e. absurd (omega arith);
+          },
+        ),
+        (let within : end ≤ℤ turn.place.0 = is.1.within in omega (arith, ints)),
       ),
-      (let within : end ≤ℤ turn.place.0 = is.1.within in omega (arith, ints)),
       omega (arith, ints),
     )
 
 -- no event at all down to the end, where there is no turn up to there
 pub look_end : (event candidate : ℤ → Bool) (p end : ℤ) (l : Look)
     → IsLook event candidate p l → event l.place.0 ≡ false → IsTurn event Back l.place.0 end None
-    → IsNextLook event candidate p l.place.0 end None
+    → (z : ℤ) → end ≤ℤ z → z ≤ℤ p → event z ≡ false
 look_end event candidate p end l looked none is z low high = by_lt_z l.place.0 z
     (λ past. looked.1.none z past high)
     (λ within.
@@ -198,15 +142,15 @@ module _ (lasts : LastsFromMoment) (back : DurationsLookBack) (cover : PlacesAre
       let at : l.place.0 ≡ p -ℤ pos n = looked.1.place in
       back set seconds p l.place.0 (omega (arith, ints)) (omega (arith, ints)) looked.1.none
 
-  pub during_stop : (a : Tree Meaning) (seconds p : ℤ) (l : Look) (budget : ℕ)
+  pub during_stop : (a : Tree Meaning) (seconds p : ℤ) (l : Look) (n budget : ℕ)
       → IsLook (is_member a) (is_candidate a) p l
       → (p -ℤ position_of seconds) <ℤ l.place.0 → is_member a l.place.0 ≡ false → budget ≤ l.passed
-      → IsDueAt (Unary (During seconds) a) 1 budget (record { at = l.place; node = 1 }) p
-  during_stop a seconds p l budget looked low none used =
-      let n = looked.0 in
-      let at : l.place.0 ≡ p -ℤ pos n = looked.1.place in
-      let counted : l.passed ≤ count_between (is_candidate a) (p -ℤ pos n) p = looked.1.counted in
-      let same : count_between (is_candidate a) (p -ℤ pos n) p ≡ count_between (is_candidate a)
+      → IsDueAt (Unary (During seconds) a) n budget (record { at = l.place; node = n }) p
+  during_stop a seconds p l n budget looked low none used =
+      let k = looked.0 in
+      let at : l.place.0 ≡ p -ℤ pos k = looked.1.place in
+      let counted : l.passed ≤ count_between (is_candidate a) (p -ℤ pos k) p = looked.1.counted in
+      let same : count_between (is_candidate a) (p -ℤ pos k) p ≡ count_between (is_candidate a)
       l.place.0 p = ap (λ z. count_between (is_candidate a) z p) (sym at) in
       let few = cover a l.place.0 p in
       inl (
@@ -220,12 +164,12 @@ module _ (lasts : LastsFromMoment) (back : DurationsLookBack) (cover : PlacesAre
         },
       )
 
-  pub during_inner : (a : Tree Meaning) (seconds p : ℤ) (l : Look) (budget : ℕ) (s : Stop)
+  pub during_inner : (a : Tree Meaning) (seconds p : ℤ) (l : Look) (n budget : ℕ) (s : Stop)
       → IsLook (is_member a) (is_candidate a) p l → (p -ℤ position_of seconds) <ℤ l.place.0
-      → IsDueAt a 2 budget s l.place.0 → IsDueAt (Unary (During seconds) a) 1 budget s p
-  during_inner a seconds p l budget s looked low due =
-      let n = looked.0 in
-      let at : l.place.0 ≡ p -ℤ pos n = looked.1.place in
+      → IsDueAt a (n + 1) budget s l.place.0 → IsDueAt (Unary (During seconds) a) n budget s p
+  during_inner a seconds p l n budget s looked low due =
+      let k = looked.0 in
+      let at : l.place.0 ≡ p -ℤ pos k = looked.1.place in
       inr (
         l.place.0,
         during_near (is_member a) (is_candidate a) seconds p l looked low,
@@ -287,16 +231,16 @@ module _ (between : IsBetweenMoments) (back : PairsLookBack) (cover : PlacesAreF
       let at : l.place.0 ≡ p -ℤ pos n = looked.1.place in
       back f g p l.place.0 (omega (arith, ints)) low looked.1.none
 
-  pub pairs_stop : (a b : Tree Meaning) (p : ℤ) (l : Look) (budget : ℕ)
+  pub pairs_stop : (a b : Tree Meaning) (p : ℤ) (l : Look) (n budget : ℕ)
       → IsLook (in_either a b) (candidate_of_either a b) p l → position_of LOW ≤ℤ l.place.0
       → in_either a b l.place.0 ≡ false → budget ≤ l.passed
-      → IsDueAt (Pairs a b) 1 budget (record { at = l.place; node = 1 }) p
-  pairs_stop a b p l budget looked low none used =
+      → IsDueAt (Pairs a b) n budget (record { at = l.place; node = n }) p
+  pairs_stop a b p l n budget looked low none used =
       let both = candidate_of_either a b in
-      let n = looked.0 in
-      let at : l.place.0 ≡ p -ℤ pos n = looked.1.place in
-      let counted : l.passed ≤ count_between both (p -ℤ pos n) p = looked.1.counted in
-      let same : count_between both (p -ℤ pos n) p ≡ count_between both l.place.0 p =
+      let k = looked.0 in
+      let at : l.place.0 ≡ p -ℤ pos k = looked.1.place in
+      let counted : l.passed ≤ count_between both (p -ℤ pos k) p = looked.1.counted in
+      let same : count_between both (p -ℤ pos k) p ≡ count_between both l.place.0 p =
       ap (λ z. count_between both z p) (sym at) in
       let few : count_between both l.place.0 p ≤ candidates (Pairs a b) l.place.0 p =
       cover (Pairs a b) l.place.0 p in
@@ -310,13 +254,14 @@ module _ (between : IsBetweenMoments) (back : PairsLookBack) (cover : PlacesAreF
         },
       )
 
-  pub pairs_inner : (a b : Tree Meaning) (p : ℤ) (l : Look) (budget : ℕ) (s : Stop)
+  pub pairs_inner : (a b : Tree Meaning) (p : ℤ) (l : Look) (n budget : ℕ) (s : Stop)
       → IsLook (in_either a b) (candidate_of_either a b) p l → position_of LOW ≤ℤ l.place.0
-      → (IsDueAt a 2 budget s l.place.0 ⊎ IsDueAt b (2 + nodes_of a) budget s l.place.0)
-      → IsDueAt (Pairs a b) 1 budget s p
-  pairs_inner a b p l budget s looked low due =
-      let n = looked.0 in
-      let at : l.place.0 ≡ p -ℤ pos n = looked.1.place in
+      → (IsDueAt a (n + 1) budget s l.place.0
+      ⊎ IsDueAt b (n + 1 + nodes_of a) budget s l.place.0)
+      → IsDueAt (Pairs a b) n budget s p
+  pairs_inner a b p l n budget s looked low due =
+      let k = looked.0 in
+      let at : l.place.0 ≡ p -ℤ pos k = looked.1.place in
       inr (
         l.place.0,
         pairs_near (is_member a) (is_member b) (candidate_of_either a b) p l looked low,

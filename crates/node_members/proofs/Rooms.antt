@@ -31,3 +31,11 @@ room_back n s p q room low high = (
   omega (arith, ints, room.1, low),
   omega (arith, ints, room.2, high),
 )
+
+-- from the position from which one looks back down to the first one of the calendar range
+pub room_between : (n : ℕ) (p q : ℤ) → HasRoom n p → position_of LOW ≤ℤ q → q ≤ℤ p → HasRoom n q
+room_between n p q room low high = (
+  room.0,
+  omega (arith, ints, room.0, low),
+  omega (arith, ints, room.2, high),
+)

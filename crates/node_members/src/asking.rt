@@ -1,4 +1,4 @@
-ghost use Rattle.std.specs.Prelude.{◌≡◌, ℤ, ◌≤◌, ◌<◌, ◌+◌, ◌^◌, IfErr, IfOk};
+ghost use Rattle.std.specs.Prelude.{◌≡◌, ◌≤◌, ◌<◌, ◌+◌, ◌^◌, IfErr, IfOk};
 ghost use Rattle.expr_tree.specs.Members.{is_member};
 ghost use Rattle.expr_tree.specs.Sorts.{nodes_of, reach_of};
 ghost use Rattle.expr_tree.specs.Sound.{IsSound};
@@ -8,20 +8,18 @@ ghost use Rattle.moment_core.specs.Sets.{moments_in};
 ghost use Rattle.search_core.specs.Due.{IsDueAt};
 ghost use Rattle.lowered_tree.specs.Nodes.{meant_of_node};
 ghost use Rattle.node_turns.specs.Room.{HasRoom, IsWorkingPosition};
-ghost use Rattle.node_members.specs.Looking.{IsBeside, has_edge};
+ghost use Rattle.node_members.specs.Joining.{is_decided, negated, with_second};
+ghost use Rattle.node_members.specs.Looking.{IsAskedAt, IsAskedRound, IsBeside};
 
-use crate::looks::{Look, during_next, earliest, pairs_next};
-use expr_tree::member_laws;
+use crate::looks::{Looked, during_first, during_look, pairs_first, pairs_look, pairs_open};
 use lowered_tree::{Leaf, Node, earlier, node_count, one_after, one_before};
-use moment_core::{LOW, Op, Pos, Steps, UnaryOp, floor, of};
-use node_turns::{is_moment, room_laws};
-use search_core::{candidate_laws, due_laws};
+use moment_core::{Op, Pos, Steps, UnaryOp, floor, of};
+use node_turns::is_moment;
 use span_core::Stop;
 use std::sync::ledger::Ledger;
 
 /// Whether the position is a member, or a stop where looking back used the budget up. The numbers
 /// of nodes are counted from 1 at this one.
-#[cycle(holds)]
 pub fn holds<L: Ledger>(
     node: &Node,
     p: Pos,
@@ -35,15 +33,33 @@ pub fn holds<L: Ledger>(
     ensures due { IfErr result (λ s. IsDueAt (meant_of_node node.now) 1 budget s p.0) }
     ensures counted { steps.old ≤ steps.new }
 {
+    asked(node, 0, p, budget, steps)
+}
+
+/// The same in a larger tree, where so many nodes are numbered before this one.
+#[cycle(asked)]
+fn asked<L: Ledger>(
+    node: &Node,
+    before: u32,
+    p: Pos,
+    budget: u64,
+    steps: &mut Steps<L>,
+) -> Result<bool, Stop>
+    requires sound { IsSound (meant_of_node node.now) }
+    requires room { HasRoom (reach_of (meant_of_node node.now)) p.0 }
+    requires small { before + nodes_of (meant_of_node node.now) < 2 ^ 32 }
+    ensures answer { IsAskedAt (meant_of_node node.now) (before + 1) budget p.0 result }
+    ensures counted { steps.old ≤ steps.new }
+{
     match node {
         Node::Empty => Ok(false),
         Node::List(moments) => Ok(is_met(moments, p, steps)),
         Node::Span(span, _, _) => Ok(span.holds(p)),
         Node::Field(leaf) => Ok(is_met(leaf, p, steps)),
         Node::Ical(leaf) => Ok(is_met(leaf, p, steps)),
-        Node::Joined(op, a, b) => holds_joined(*op, a, b, p, budget, steps),
-        Node::Pairs(a, b) => holds_pairs(a, b, p, budget, steps),
-        Node::Unary(op, a) => holds_unary(*op, a, p, budget, steps),
+        Node::Joined(op, a, b) => asked_joined(*op, a, b, before + 1, p, budget, steps),
+        Node::Pairs(a, b) => asked_pairs(a, b, before + 1, p, budget, steps),
+        Node::Unary(op, a) => asked_unary(*op, a, before + 1, p, budget, steps),
     }
 }
 
@@ -57,64 +73,14 @@ fn is_met<F: Leaf, L: Ledger>(leaf: &F, p: Pos, steps: &mut Steps<L>) -> bool
     of(t) == p && leaf.test(t, steps)
 }
 
-/// The stop of a tree whose root has so many nodes before it.
-fn after(stop: Stop, before: u32) -> Stop
-    requires { before + stop.node < 2 ^ 32 }
-    ensures at { result.at ≡ stop.at }
-    ensures node { result.node ≡ before + stop.node }
-{
-    Stop {
-        at: stop.at,
-        node: before + stop.node,
-    }
-}
-
-/// Asks the first child, whose root has the number 2.
-#[cycle(holds)]
-fn ask<L: Ledger>(a: &Node, p: Pos, budget: u64, steps: &mut Steps<L>) -> Result<bool, Stop>
-    requires sound { IsSound (meant_of_node a.now) }
-    requires room { HasRoom (reach_of (meant_of_node a.now)) p.0 }
-    requires small { 1 + nodes_of (meant_of_node a.now) < 2 ^ 32 }
-    ensures value { IfOk result (λ v. v ≡ is_member (meant_of_node a.now) p.0) }
-    ensures due { IfErr result (λ s. IsDueAt (meant_of_node a.now) 2 budget s p.0) }
-    ensures counted { steps.old ≤ steps.new }
-{
-    match holds(a, p, budget, steps) {
-        Ok(member) => Ok(member),
-        Err(stop) => Err(after(stop, 1)),
-    }
-}
-
-/// Asks the second child, whose root is numbered after the nodes of the first one.
-#[cycle(holds)]
-fn ask_second<L: Ledger>(
-    a: &Node,
-    b: &Node,
-    p: Pos,
-    budget: u64,
-    steps: &mut Steps<L>,
-) -> Result<bool, Stop>
-    requires sound { IsSound (meant_of_node b.now) }
-    requires room { HasRoom (reach_of (meant_of_node b.now)) p.0 }
-    requires small { 1 + nodes_of (meant_of_node a.now) + nodes_of (meant_of_node b.now) < 2 ^ 32 }
-    ensures value { IfOk result (λ v. v ≡ is_member (meant_of_node b.now) p.0) }
-    ensures due { IfErr result
-        (λ s. IsDueAt (meant_of_node b.now) (2 + nodes_of (meant_of_node a.now)) budget s p.0) }
-    ensures counted { steps.old ≤ steps.new }
-{
-    match holds(b, p, budget, steps) {
-        Ok(member) => Ok(member),
-        Err(stop) => Err(after(stop, 1 + node_count(a))),
-    }
-}
-
-/// Whether the position is a member of what is made of the two sets. The second one is asked only
-/// where the first doesn't decide.
-#[cycle(holds)]
-fn holds_joined<L: Ledger>(
+/// Whether the position is a member of what is made of the two sets, by a node of this number. The
+/// second one is asked only where the first doesn't decide.
+#[cycle(asked)]
+fn asked_joined<L: Ledger>(
     op: Op,
     a: &Node,
     b: &Node,
+    number: u32,
     p: Pos,
     budget: u64,
     steps: &mut Steps<L>,
@@ -122,52 +88,84 @@ fn holds_joined<L: Ledger>(
     requires sound { IsSound (Joined op (meant_of_node a.now) (meant_of_node b.now)) }
     requires room { HasRoom
         (reach_of (Joined op (meant_of_node a.now) (meant_of_node b.now))) p.0 }
-    requires small { 1 + nodes_of (meant_of_node a.now) + nodes_of (meant_of_node b.now) < 2 ^ 32 }
-    ensures value { IfOk result
-        (λ v. v ≡ is_member (Joined op (meant_of_node a.now) (meant_of_node b.now)) p.0) }
-    ensures due { IfErr result
-        (λ s. IsDueAt (Joined op (meant_of_node a.now) (meant_of_node b.now)) 1 budget s p.0) }
+    requires small { number + nodes_of (meant_of_node a.now) + nodes_of (meant_of_node b.now)
+        < 2 ^ 32 }
+    ensures answer { IsAskedAt (Joined op (meant_of_node a.now) (meant_of_node b.now))
+        number budget p.0 result }
     ensures counted { steps.old ≤ steps.new }
 {
-    let first = ask(a, p, budget, steps)?;
-    match op {
-        Op::Union if first => Ok(true),
-        Op::Meet | Op::Minus if !first => Ok(false),
-        Op::Union | Op::Meet => ask_second(a, b, p, budget, steps),
-        Op::Minus => Ok(!ask_second(a, b, p, budget, steps)?),
+    let first = asked(a, number, p, budget, steps);
+    if is_decided(op, first) {
+        return first;
+    }
+    let second = asked(b, number + node_count(a), p, budget, steps);
+    with_second(op, second)
+}
+
+/// Whether the answer for the first set is that for what is made of both.
+fn is_decided(op: Op, first: Result<bool, Stop>) -> bool
+    ensures { result ≡ is_decided op first }
+{
+    match (op, first) {
+        (_, Err(_)) => true,
+        (Op::Union, Ok(member)) => member,
+        (Op::Meet, Ok(member)) => !member,
+        (Op::Minus, Ok(member)) => !member,
     }
 }
 
-/// Whether the position is a member of what is made of the set.
-#[cycle(holds)]
-fn holds_unary<L: Ledger>(
+/// The answer for what is made of both sets, by that for the second one.
+fn with_second(op: Op, second: Result<bool, Stop>) -> Result<bool, Stop>
+    ensures { result ≡ with_second op second }
+{
+    match op {
+        Op::Union => second,
+        Op::Meet => second,
+        Op::Minus => negated(second),
+    }
+}
+
+/// The other answer; a stop is none.
+fn negated(answer: Result<bool, Stop>) -> Result<bool, Stop>
+    ensures { result ≡ negated answer }
+{
+    match answer {
+        Ok(member) => Ok(!member),
+        Err(stop) => Err(stop),
+    }
+}
+
+/// Whether the position is a member of what is made of the set, by a node of this number.
+#[cycle(asked)]
+fn asked_unary<L: Ledger>(
     op: UnaryOp,
     a: &Node,
+    number: u32,
     p: Pos,
     budget: u64,
     steps: &mut Steps<L>,
 ) -> Result<bool, Stop>
     requires sound { IsSound (Unary op (meant_of_node a.now)) }
     requires room { HasRoom (reach_of (Unary op (meant_of_node a.now))) p.0 }
-    requires small { 1 + nodes_of (meant_of_node a.now) < 2 ^ 32 }
-    ensures value { IfOk result (λ v. v ≡ is_member (Unary op (meant_of_node a.now)) p.0) }
-    ensures due { IfErr result (λ s. IsDueAt (Unary op (meant_of_node a.now)) 1 budget s p.0) }
+    requires small { number + nodes_of (meant_of_node a.now) < 2 ^ 32 }
+    ensures answer { IsAskedAt (Unary op (meant_of_node a.now)) number budget p.0 result }
     ensures counted { steps.old ≤ steps.new }
 {
     match op {
-        UnaryOp::Not => Ok(!ask(a, p, budget, steps)?),
-        UnaryOp::During(seconds) => holds_during(a, seconds, p, budget, steps),
-        UnaryOp::Starts => holds_edge(a, p, one_before(p), one_after(p), budget, steps),
-        UnaryOp::Ends => holds_edge(a, p, one_after(p), one_before(p), budget, steps),
-        UnaryOp::Shift(seconds) => ask(a, earlier(p, seconds), budget, steps),
+        UnaryOp::Not => negated(asked(a, number, p, budget, steps)),
+        UnaryOp::During(seconds) => asked_during(a, seconds, number, p, budget, steps),
+        UnaryOp::Starts => asked_edge(a, number, p, one_before(p), one_after(p), budget, steps),
+        UnaryOp::Ends => asked_edge(a, number, p, one_after(p), one_before(p), budget, steps),
+        UnaryOp::Shift(seconds) => asked(a, number, earlier(p, seconds), budget, steps),
     }
 }
 
 /// Whether the position is a moment at which a run of the set begins or ends: of the positions
 /// beside it the one lies without the run, the other within.
-#[cycle(holds)]
-fn holds_edge<L: Ledger>(
+#[cycle(asked)]
+fn asked_edge<L: Ledger>(
     a: &Node,
+    number: u32,
     p: Pos,
     without: Pos,
     within: Pos,
@@ -177,65 +175,59 @@ fn holds_edge<L: Ledger>(
     requires sound { IsSound (meant_of_node a.now) }
     requires room { HasRoom (1 + reach_of (meant_of_node a.now)) p.0 }
     requires beside { IsBeside p.0 without.0 × IsBeside p.0 within.0 }
-    requires small { 1 + nodes_of (meant_of_node a.now) < 2 ^ 32 }
-    ensures value { IfOk result
-        (λ v. v ≡ has_edge (is_member (meant_of_node a.now)) p.0 without.0 within.0) }
-    ensures due { IfErr result
-        (λ s. (r : ℤ) × IsBeside p.0 r × IsDueAt (meant_of_node a.now) 2 budget s r) }
+    requires small { number + nodes_of (meant_of_node a.now) < 2 ^ 32 }
+    ensures answer { IsAskedRound (meant_of_node a.now) (number + 1) budget
+        p.0 without.0 within.0 result }
     ensures counted { steps.old ≤ steps.new }
 {
     if !is_moment(p) {
         return Ok(false);
     }
-    if ask(a, p, budget, steps)? {
-        Ok(!ask(a, without, budget, steps)?)
-    } else {
-        ask(a, within, budget, steps)
+    match asked(a, number, p, budget, steps) {
+        Ok(true) => negated(asked(a, number, without, budget, steps)),
+        Ok(false) => asked(a, number, within, budget, steps),
+        Err(stop) => Err(stop),
     }
 }
 
-/// Whether a member of the set lies within the seconds before the position.
-#[cycle(holds)]
-fn holds_during<L: Ledger>(
+/// Whether a member of the set lies within the seconds before the position, by a node of this
+/// number.
+#[cycle(asked)]
+fn asked_during<L: Ledger>(
     a: &Node,
     seconds: i64,
+    number: u32,
     p: Pos,
     budget: u64,
     steps: &mut Steps<L>,
 ) -> Result<bool, Stop>
     requires sound { IsSound (Unary (During seconds) (meant_of_node a.now)) }
     requires room { HasRoom (reach_of (Unary (During seconds) (meant_of_node a.now))) p.0 }
-    requires small { 1 + nodes_of (meant_of_node a.now) < 2 ^ 32 }
-    ensures value { IfOk result
-        (λ v. v ≡ is_member (Unary (During seconds) (meant_of_node a.now)) p.0) }
-    ensures due { IfErr result
-        (λ s. IsDueAt (Unary (During seconds) (meant_of_node a.now)) 1 budget s p.0) }
+    requires small { number + nodes_of (meant_of_node a.now) < 2 ^ 32 }
+    ensures answer { IsAskedAt (Unary (During seconds) (meant_of_node a.now))
+        number budget p.0 result }
     ensures counted { steps.old ≤ steps.new }
 {
-    member_laws();
-    due_laws();
-    candidate_laws();
-    if p < earliest(p, seconds) {
+    let Some(first) = during_first(a, seconds, p) else {
         return Ok(false);
-    }
-    let mut look = Look::from(p);
+    };
+    let mut look = first;
     'back: loop {
-        if ask(a, look.place, budget, steps)? {
-            return Ok(true);
-        }
-        match during_next(a, seconds, p, look, budget, steps)? {
-            Some(next) => look = next,
-            None => return Ok(false),
+        let here = asked(a, number, look.place, budget, steps);
+        match during_look(a, seconds, number, p, look, here, budget, steps) {
+            Looked::Told(answer) => return answer,
+            Looked::Next(next) => look = next,
         }
     }
 }
 
 /// Whether the latest member of the first set up to the position, not below the calendar range, is
-/// followed by none of the second.
-#[cycle(holds)]
-fn holds_pairs<L: Ledger>(
+/// followed by none of the second, by a node of this number.
+#[cycle(asked)]
+fn asked_pairs<L: Ledger>(
     opens: &Node,
     closes: &Node,
+    number: u32,
     p: Pos,
     budget: u64,
     steps: &mut Steps<L>,
@@ -243,32 +235,31 @@ fn holds_pairs<L: Ledger>(
     requires sound { IsSound (Pairs (meant_of_node opens.now) (meant_of_node closes.now)) }
     requires room { HasRoom
         (reach_of (Pairs (meant_of_node opens.now) (meant_of_node closes.now))) p.0 }
-    requires small { 1 + nodes_of (meant_of_node opens.now)
+    requires small { number + nodes_of (meant_of_node opens.now)
         + nodes_of (meant_of_node closes.now) < 2 ^ 32 }
-    ensures value { IfOk result
-        (λ v. v ≡ is_member (Pairs (meant_of_node opens.now) (meant_of_node closes.now)) p.0) }
-    ensures due { IfErr result
-        (λ s. IsDueAt (Pairs (meant_of_node opens.now) (meant_of_node closes.now)) 1 budget s p.0) }
+    ensures answer { IsAskedAt (Pairs (meant_of_node opens.now) (meant_of_node closes.now))
+        number budget p.0 result }
     ensures counted { steps.old ≤ steps.new }
 {
-    member_laws();
-    due_laws();
-    candidate_laws();
-    room_laws();
-    if p < Pos(2 * LOW) {
+    let Some(first) = pairs_first(opens, closes, p) else {
         return Ok(false);
-    }
-    let mut look = Look::from(p);
+    };
+    let mut look = first;
     'back: loop {
-        if ask(opens, look.place, budget, steps)? {
-            return Ok(true);
+        let opened = asked(opens, number, look.place, budget, steps);
+        if let Some(answer) = pairs_open(opens, closes, number, p, look, opened, budget) {
+            return answer;
         }
-        if ask_second(opens, closes, look.place, budget, steps)? {
-            return Ok(false);
-        }
-        match pairs_next(opens, closes, p, look, budget, steps)? {
-            Some(next) => look = next,
-            None => return Ok(false),
+        let closed = asked(
+            closes,
+            number + node_count(opens),
+            look.place,
+            budget,
+            steps,
+        );
+        match pairs_look(opens, closes, number, p, look, closed, budget, steps) {
+            Looked::Told(answer) => return answer,
+            Looked::Next(next) => look = next,
         }
     }
 }
