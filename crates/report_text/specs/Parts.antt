@@ -5,7 +5,7 @@ use Rattle.rule_core.specs.declared.part.Part.TheVariants as parts
 use Rattle.rule_core.specs.declared.part.RuleFault.{RuleFault}
 use Rattle.rule_core.specs.declared.part.RuleFault.TheVariants.{BadMix, BadValue, BadInterval}
 
--- keys and frequencies in lower case, parts of RFC 5545 in upper case
+-- keys and frequencies in lower case, parts of RFC 5545 that are no keys in upper case
 abbrev pub part_name : Part → List ℕ
 part_name parts.Yearly = codes "yearly"
 part_name parts.Monthly = codes "monthly"
@@ -37,6 +37,11 @@ part_name parts.ByMinute = codes "BYMINUTE"
 part_name parts.BySecond = codes "BYSECOND"
 part_name parts.BySetPos = codes "BYSETPOS"
 part_name parts.Wkst = codes "WKST"
+
+-- a part of RFC 5545 in upper case, INTERVAL too, which is also a key
+abbrev pub rrule_part_name : Part → List ℕ
+rrule_part_name parts.Interval = codes "INTERVAL"
+rrule_part_name part = part_name part
 
 -- the two that don't go together, or the one whose value is out of its range
 abbrev pub rule_fault_text : RuleFault → List ℕ

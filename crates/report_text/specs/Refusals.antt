@@ -5,7 +5,7 @@ use Rattle.expr_tree.specs.declared.sorting.SortFault.TheVariants as sorts
 use Rattle.moment_core.specs.Line.{IsWorkingMoment}
 use Rattle.moment_core.specs.declared.line.Clock.TheVariants.{Floating}
 use Rattle.report_text.specs.Lines.{moment_text, with_line_feed}
-use Rattle.report_text.specs.Parts.{part_name, rule_fault_text}
+use Rattle.report_text.specs.Parts.{rrule_part_name, rule_fault_text}
 use Rattle.report_text.specs.declared.refusals.Refusal.{Refusal}
 use Rattle.report_text.specs.declared.refusals.Refusal.TheVariants.{Words, Unbuilt, Long, Token, Syntax, Moment, Rule, RruleSyntax, RruleRepeated, Rrule, Sort, Two, Clock, Settle}
 
@@ -27,7 +27,7 @@ refusal_text Syntax = codes "syntax"
 refusal_text (Moment byte) = codes "moment " ++ decimal byte
 refusal_text (Rule fault) = codes "rule " ++ rule_fault_text fault
 refusal_text RruleSyntax = codes "rrule syntax"
-refusal_text (RruleRepeated part) = codes "rrule repeated " ++ part_name part
+refusal_text (RruleRepeated part) = codes "rrule repeated " ++ rrule_part_name part
 refusal_text (Rrule fault) = codes "rrule " ++ rule_fault_text fault
 refusal_text (Sort fault) = codes "sort " ++ sort_text fault
 refusal_text Two = codes "two"

@@ -1,12 +1,12 @@
 //! Rules that have a fault, as lines tell them.
 
 ghost use Rattle.std.specs.Prelude.{◌≡◌, ◌≤◌, ◌+◌, ◌++◌, length};
-ghost use Rattle.report_text.specs.Parts.{part_name, rule_fault_text};
+ghost use Rattle.report_text.specs.Parts.{part_name, rrule_part_name, rule_fault_text};
 
 use crate::lines::Line;
 use rule_core::{Part, RuleFault};
 
-/// The name of a key, of a frequency or of a part of RFC 5545 (3.3.10), as it is written.
+/// The name of a key, of a frequency or of a part of RFC 5545 (3.3.10) that is no key.
 fn part_name(part: Part) -> &'static [u8]
     ensures text { result.now ≡ part_name part }
     ensures short { length result.now ≤ 10 }
@@ -45,14 +45,35 @@ fn part_name(part: Part) -> &'static [u8]
     }
 }
 
+/// The name of a part of RFC 5545 (3.3.10) in upper case, INTERVAL too, which is also a key.
+fn rrule_part_name(part: Part) -> &'static [u8]
+    ensures text { result.now ≡ rrule_part_name part }
+    ensures short { length result.now ≤ 10 }
+{
+    match part {
+        Part::Interval => b"INTERVAL",
+        _ => part_name(part),
+    }
+}
+
 /// A word, and the name of the part.
-pub(crate) fn put_named(line: &mut Line, word: &[u8], part: Part)
+fn put_named(line: &mut Line, word: &[u8], part: Part)
     requires room { length line.old + length word.now + 10 ≤ 128 }
     ensures bytes { line.new ≡ line.old ++ (word.now ++ part_name part) }
     ensures len { length line.new ≤ length line.old + length word.now + 10 }
 {
     line.put(word);
     line.put(part_name(part));
+}
+
+/// A word, and the name of the part of RFC 5545.
+pub(crate) fn put_rrule_named(line: &mut Line, word: &[u8], part: Part)
+    requires room { length line.old + length word.now + 10 ≤ 128 }
+    ensures bytes { line.new ≡ line.old ++ (word.now ++ rrule_part_name part) }
+    ensures len { length line.new ≤ length line.old + length word.now + 10 }
+{
+    line.put(word);
+    line.put(rrule_part_name(part));
 }
 
 /// Which fault the rule has, with its keys.

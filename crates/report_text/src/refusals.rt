@@ -4,7 +4,7 @@ ghost use Rattle.std.specs.Prelude.{◌≡◌, ◌≤◌, ◌+◌, ◌++◌, dec
 ghost use Rattle.report_text.specs.Refusals.{IsPrintable, refusal_line, refusal_text, sort_text};
 
 use crate::lines::Line;
-use crate::parts::{put_named, put_rule_fault};
+use crate::parts::{put_rrule_named, put_rule_fault};
 use crate::pieces::{put_moment, put_number};
 use expr_tree::SortFault;
 use moment_core::{Clock, Moment};
@@ -86,7 +86,7 @@ fn put_refusal(line: &mut Line, refusal: Refusal)
             put_rule_fault(line, fault);
         }
         Refusal::RruleSyntax => line.put(b"rrule syntax"),
-        Refusal::RruleRepeated(part) => put_named(line, b"rrule repeated ", part),
+        Refusal::RruleRepeated(part) => put_rrule_named(line, b"rrule repeated ", part),
         Refusal::Rrule(fault) => {
             line.put(b"rrule ");
             put_rule_fault(line, fault);
