@@ -3,7 +3,7 @@ ghost use Rattle.field_rules.specs.Leaves.{IsWholeSieve};
 use frame_core::{Frame, period_laws, rule_period};
 use moment_core::{HIGH, LOW, Moment, Pos, REACH, Step};
 use sieve_core::{Sieve, sieve_laws};
-use stored_pair::{Recurrence, recurrence_laws};
+use stored_pair::{Members, Recurrence, recurrence_laws};
 
 /// A field rule made ready to be searched.
 #[derive(Clone, Copy, Debug, Drop)]
@@ -63,5 +63,17 @@ impl Recurrence for FieldLeaf {
             }),
             None => None,
         }
+    }
+}
+
+impl Members for FieldLeaf {
+    fn next_member(&self, t: Moment) -> Option<Moment> {
+        sieve_laws();
+        self.sieve.next_member(t)
+    }
+
+    fn previous_member(&self, t: Moment) -> Option<Moment> {
+        sieve_laws();
+        self.sieve.previous_member(t)
     }
 }

@@ -8,7 +8,7 @@ mod lowering;
 mod times;
 mod values;
 
-pub use laws::field_laws;
+pub use laws::{field_laws, field_leaf_laws};
 pub use leaf::FieldLeaf;
 pub use lowering::lower_field;
 

@@ -3,7 +3,7 @@ ghost use Rattle.ical_rules.specs.Leaves.{HasCounted, IsFramed, IsFramed-prop, h
 use frame_core::Frame;
 use moment_core::{Moment, Step};
 use sieve_core::{KnownRanks, Sieve, sieve_laws};
-use stored_pair::{Recurrence, recurrence_laws};
+use stored_pair::{Members, Recurrence, recurrence_laws};
 
 /// A rule of RFC 5545 made ready to be searched.
 #[derive(Clone, Copy, Debug, Drop)]
@@ -93,5 +93,17 @@ impl Recurrence for IcalLeaf {
 
     fn frame(&self) -> Option<Frame> {
         self.frame
+    }
+}
+
+impl Members for IcalLeaf {
+    fn next_member(&self, t: Moment) -> Option<Moment> {
+        sieve_laws();
+        self.sieve.next_member(t)
+    }
+
+    fn previous_member(&self, t: Moment) -> Option<Moment> {
+        sieve_laws();
+        self.sieve.previous_member(t)
     }
 }

@@ -12,7 +12,7 @@ mod times;
 mod units;
 mod values;
 
-pub use laws::ical_laws;
+pub use laws::{ical_laws, ical_leaf_laws};
 pub use leaf::IcalLeaf;
 pub use lowering::{lower_ical, lower_uncounted};
 pub use outcome::{Settled, Unsettled};

@@ -4,8 +4,10 @@ ghost use Rattle.moment_core.specs.Counter.{capped};
 ghost use Rattle.moment_core.specs.Line.{IsWorkingMoment};
 ghost use Rattle.moment_core.specs.Sets.{moments_in};
 ghost use Rattle.moment_core.specs.Steps.{IsNext, IsPrevious};
-ghost use Rattle.stored_pair.specs.Recurrences.{AreCandidates, AreModest, SkipsNoEarlierMember, SkipsNoMember};
+ghost use Rattle.moment_core.specs.declared.line.Dir.TheVariants.{Fore, Back};
+ghost use Rattle.stored_pair.specs.Recurrences.{AreCandidates, AreModest, IsNextMember, SkipsNoEarlierMember, SkipsNoMember};
 
+use crate::members::Members;
 use crate::recurrence::Recurrence;
 use frame_core::Frame;
 use moment_core::{Moment, Step, Steps};
@@ -69,5 +71,31 @@ impl<R: Recurrence> Guarded<R> {
         ensures repeats { RepeatsIfFramed (moments_in (R.has self.now.inner)) result }
     {
         self.inner.frame()
+    }
+}
+
+impl<R: Members> Guarded<R> {
+    /// The nearest member after the moment of the working range. One step.
+    pub fn next_member<L: Ledger>(&self, t: Moment, steps: &mut Steps<L>) -> Option<Moment>
+        requires { IsWorkingMoment t.0 }
+        ensures next { IsNextMember (R.has self.now.inner) Fore t.0 result }
+        ensures candidates { AreCandidates (R.has self.now.inner) (R.cand self.now.inner) }
+        ensures cost { steps.new ≡ capped (steps.old + 1) }
+        ensures counted { steps.old ≤ steps.new }
+    {
+        steps.tick();
+        self.inner.next_member(t)
+    }
+
+    /// The nearest member before the moment of the working range. One step.
+    pub fn previous_member<L: Ledger>(&self, t: Moment, steps: &mut Steps<L>) -> Option<Moment>
+        requires { IsWorkingMoment t.0 }
+        ensures next { IsNextMember (R.has self.now.inner) Back t.0 result }
+        ensures candidates { AreCandidates (R.has self.now.inner) (R.cand self.now.inner) }
+        ensures cost { steps.new ≡ capped (steps.old + 1) }
+        ensures counted { steps.old ≤ steps.new }
+    {
+        steps.tick();
+        self.inner.previous_member(t)
     }
 }

@@ -5,11 +5,13 @@
 mod catalog;
 mod guarded;
 mod laws;
+mod members;
 mod recurrence;
 
 pub use catalog::Book;
 pub use guarded::Guarded;
 pub use laws::recurrence_laws;
+pub use members::Members;
 pub use moment_core::Step;
 pub use recurrence::Recurrence;
 
