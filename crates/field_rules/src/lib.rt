@@ -11,6 +11,3 @@ mod values;
 pub use laws::{field_laws, field_leaf_laws};
 pub use leaf::FieldLeaf;
 pub use lowering::lower_field;
-
-#[cfg(test)]
-mod tests;

@@ -105,8 +105,8 @@ fn phase_of(rule: &FieldRule) -> i64
     unit_number(unit_of(rule), start_of(rule))
 }
 
-/// The moment from which units are counted: 1970-01-01T00:00:00 where none is given.
-pub(crate) fn start_of(rule: &FieldRule) -> Moment
+// The moment from which units are counted: 1970-01-01T00:00:00 where none is given.
+fn start_of(rule: &FieldRule) -> Moment
     ensures { result.0 ≡ start_of rule.now.start }
 {
     match rule.start {

@@ -17,6 +17,3 @@ pub use leaf::IcalLeaf;
 pub use lowering::{lower_ical, lower_uncounted};
 pub use outcome::{Settled, Unsettled};
 pub use settling::{settle, settling_laws};
-
-#[cfg(test)]
-mod tests;

@@ -118,6 +118,3 @@ fn search(leaf: &IcalLeaf, start: Moment, count: u64, budget: u64) -> Result<Set
         _ => Err(Unsettled { passed: budget, at }),
     }
 }
-
-#[cfg(test)]
-mod tests;

@@ -12,6 +12,3 @@ pub use fault::RruleFault;
 pub use laws::text_laws;
 pub use reading::read_rrule;
 pub use writing::write_rrule;
-
-#[cfg(test)]
-mod tests;

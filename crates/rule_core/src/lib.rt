@@ -15,6 +15,3 @@ pub use laws::rule_laws;
 pub use lists::{DayItem, DayItems, Signed};
 pub use part::{Freq, Part, RuleFault};
 pub use rows::{field_rows, ical_rows};
-
-#[cfg(test)]
-mod tests;

@@ -19,6 +19,3 @@ pub use laws::sieve_laws;
 pub use moment_core::{Step, Unit};
 pub use tables::{DayTest, RankSet, Sieve};
 pub use units::number as unit_number;
-
-#[cfg(test)]
-mod tests;

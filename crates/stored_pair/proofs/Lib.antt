@@ -1,3 +1,2 @@
 pub mod ListParts
-mod Once
 pub mod RecurrenceLemmas

@@ -52,15 +52,3 @@ impl Book {
         self.entries[id].name.as_str()
     }
 }
-
-#[cfg(test)]
-mod tests {
-    use super::*;
-
-    #[test]
-    fn an_empty_book_has_no_name(rt: HostRuntime) {
-        let book = Book::empty(rt.alloc());
-        assert_eq!(rt; book.find("rota"), None);
-        assert_eq!(rt; book.find(""), None);
-    }
-}

@@ -14,6 +14,3 @@ pub use laws::recurrence_laws;
 pub use members::Members;
 pub use moment_core::Step;
 pub use recurrence::Recurrence;
-
-#[cfg(test)]
-mod tests;

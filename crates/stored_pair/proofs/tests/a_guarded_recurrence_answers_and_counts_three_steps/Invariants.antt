@@ -1,4 +1,0 @@
-use Rattle.stored_pair.proofs.tests.a_guarded_recurrence_answers_and_counts_three_steps.Given as goal
-
-abbrev pub ghosts-looks : goal.ghosts-looks
-ghosts-looks g a = record { name = a.blank.name; parts = a.blank.parts }
