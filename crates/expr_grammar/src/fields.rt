@@ -221,26 +221,3 @@ pub(crate) fn rule<'t, 'a>(
     }
     close(SyntaxTree::Rule { freq, fields }, rest)
 }
-
-#[cfg(test)]
-mod tests {
-    use super::*;
-
-    #[test]
-    fn a_rule_is_parsed(rt: HostRuntime) {
-        let tokens = [
-            Token::Word(Word::Weekly, 0),
-            Token::Open,
-            Token::Word(Word::Days, 7),
-            Token::Equals,
-            Token::Number(1),
-            Token::Comma,
-            Token::Number(-1),
-            Token::Word(Word::Interval, 17),
-            Token::Equals,
-            Token::Number(2),
-            Token::Close,
-        ];
-        assert!(rt; rule(rt.alloc(), &tokens).is_ok());
-    }
-}

@@ -512,19 +512,3 @@ pub fn parse<'t, 'a>(alloc: Global, tokens: &'t [Token<'a>]) -> Result<SyntaxTre
 {
     program(alloc, tokens)
 }
-
-#[cfg(test)]
-mod tests {
-    use super::*;
-
-    #[test]
-    fn an_inverse_is_parsed(rt: HostRuntime) {
-        let tokens = [
-            Token::Exclamation,
-            Token::Word(Word::Span, 1),
-            Token::Open,
-            Token::Close,
-        ];
-        assert!(rt; parse(rt.alloc(), &tokens).is_ok());
-    }
-}

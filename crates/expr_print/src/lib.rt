@@ -3,7 +3,5 @@
 
 mod fields;
 mod printing;
-#[cfg(test)]
-mod tests;
 
 pub use printing::{write_expr, write_program};

@@ -13,6 +13,3 @@ pub use fault::{LONGEST, TextFault};
 pub use laws::reading_laws;
 pub use reading::{read_program, read_sorted};
 pub use sorted::{SortedProgram, SortedSet};
-
-#[cfg(test)]
-mod tests;

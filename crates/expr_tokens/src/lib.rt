@@ -12,6 +12,3 @@ pub use fault::TokenFault;
 pub use laws::{token_laws, writing_laws};
 pub use reading::{STRING_LIMIT, tokens};
 pub use token::{Token, Word};
-
-#[cfg(test)]
-mod tests;

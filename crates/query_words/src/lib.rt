@@ -17,6 +17,3 @@ pub use laws::words_laws;
 pub use queries::{Neighbour, Query, WordsFault};
 pub use reading::read_words;
 pub use values::{DEFAULT_BUDGET, DEFAULT_LIMIT, MAX_BUDGET, MAX_LIMIT};
-
-#[cfg(test)]
-mod tests;

@@ -19,6 +19,3 @@ pub use moment_text::read_moment;
 pub use neighbours::{line_near, line_test};
 pub use refusals::{Refusal, line_refusal};
 pub use token_text::read_token;
-
-#[cfg(test)]
-mod tests;
