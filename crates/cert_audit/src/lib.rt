@@ -6,8 +6,6 @@ mod frames;
 mod laws;
 mod ready;
 mod search;
-#[cfg(test)]
-mod tests;
 
 pub use frames::frame_of;
 pub use laws::ready_laws;

@@ -4,8 +4,6 @@
 mod laws;
 mod lists;
 mod sorting;
-#[cfg(test)]
-mod tests;
 mod tree;
 
 pub use laws::{member_laws, tree_laws};

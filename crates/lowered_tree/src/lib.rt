@@ -9,8 +9,6 @@ mod leaves;
 mod moments;
 mod nodes;
 mod places;
-#[cfg(test)]
-mod tests;
 
 pub use faults::{PlanFault, SETTLE_LIMIT};
 pub use frames::node_frame;

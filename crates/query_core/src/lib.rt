@@ -5,8 +5,6 @@ mod closeness;
 mod laws;
 mod neighbours;
 mod searches;
-#[cfg(test)]
-mod tests;
 
 pub use laws::{budget_laws, endless_laws, neighbour_laws};
 pub use neighbours::{closest, contains, current, next, previous};

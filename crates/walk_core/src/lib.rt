@@ -5,8 +5,6 @@
 mod both;
 mod laws;
 mod steps;
-#[cfg(test)]
-mod tests;
 mod tokens;
 mod walk;
 

@@ -1,63 +1,25 @@
-ghost use Rattle.std.specs.Prelude.{◌≡◌, ◌↔◌, ◌<◌, IfOk, IsTrue};
-ghost use Rattle.moment_core.specs.Line.{IsCalendarMoment, IsCalendarPosition};
-ghost use Rattle.expr_tree.specs.Tree.{tree_of};
-ghost use Rattle.expr_tree.specs.WellFormed.{IsWellFormed};
+//! Tests of walk_core.
 
-use crate::{Walk, both_ends};
-use cert_audit::PlanFault;
-use expr_tree::{Expr, Stamps, sort_of};
-use moment_core::{Clock, Dir, HIGH, LOW, Moment, Pos, Stamp, Steps, Window};
+ghost use Rattle.std.specs.Prelude.{◌≡◌, ◌<◌};
+ghost use Rattle.moment_core.specs.Line.{IsCalendarPosition};
+
+use crate::given::{is_in_range, set_of};
+use moment_core::{Dir, HIGH, LOW, Moment, Pos, Steps, Window};
 use plan_core::Plan;
 use span_core::Bound::{Closed, Edge, Inf, Open};
-use span_core::{Bound, Empty, Item, Run, Span, Why, token_fits};
-use std::alloc::{AllocError, Global};
+use span_core::{Bound, Item, Run, Why, token_fits};
+use std::alloc::Global;
 use std::marker::Brand;
 use std::ops::Range;
 use std::process::Abort;
 use std::sync::ledger::{Blank, Ledger};
 use std::test::Fail;
 use stored_pair::Book;
+use walk_core::{Walk, both_ends};
 
 const A: Moment = Moment(10);
 
 const B: Moment = Moment(20);
-
-/// The two moments.
-fn two(alloc: Global) -> Result<Expr, AllocError>
-    ensures { IfOk result (λ e. IsWellFormed (tree_of e)) }
-{
-    let floating = |moment: Moment| Stamp {
-        moment,
-        absolute: false,
-    };
-    let stamps = Vec::from_slice(alloc, &[floating(A), floating(B)])?;
-    Ok(Expr::List(Stamps::of(stamps)))
-}
-
-fn all_but_two(alloc: Global) -> Result<Expr, AllocError>
-    ensures { IfOk result (λ e. IsWellFormed (tree_of e)) }
-{
-    Ok(Expr::Not(Box::new(alloc, two(alloc)?)?))
-}
-
-/// From one moment to another.
-fn span(first: Moment, last: Moment) -> Result<Expr, Empty>
-    requires first { IsCalendarMoment first.0 }
-    requires last { IsCalendarMoment last.0 }
-    ensures { IfOk result (λ e. IsWellFormed (tree_of e)) }
-{
-    let span = Span::new(Closed(first), Closed(last))?;
-    Ok(Expr::Span(span, Clock::Floating, Clock::Floating))
-}
-
-/// The span without the two moments.
-fn without_two(alloc: Global, span: Expr) -> Result<Expr, AllocError>
-    requires { IsWellFormed (tree_of span) }
-    ensures { IfOk result (λ e. IsWellFormed (tree_of e)) }
-{
-    let span = Box::new(alloc, span)?;
-    Ok(Expr::Minus(span, Box::new(alloc, two(alloc)?)?))
-}
 
 /// The lowest and highest position of a window, the bounds of its items in ascending order, and why
 /// none follows, upwards and downwards. The moment `t` is the position `2t`, and the open second
@@ -95,12 +57,6 @@ impl<'s> Row<'s> {
         };
         self.run(dir, before).map_or(Item::Done(end), Item::Run)
     }
-}
-
-fn is_in_range(p: Pos) -> bool
-    ensures { IsTrue result ↔ IsCalendarPosition p.0 }
-{
-    2 * LOW <= p.0 && p.0 <= 2 * HIGH
 }
 
 /// The walk gives the items of the row that come after so many others.
@@ -201,11 +157,9 @@ fn all_rows(rt: &impl Abort, plan: &mut Plan, rows: &[Row]) {
     walk_rows::<Brand>(rt, plan, rows, Blank::new(1));
 }
 
-fn walk_set(rt: &impl Abort, alloc: Global, set: Expr, rows: &[Row]) -> Result<(), PlanFault>
-    requires { IsWellFormed (tree_of set) }
-{
+fn walk_set(rt: &impl Abort, alloc: Global, text: &str, rows: &[Row]) -> Result<(), Fail> {
+    let set = set_of(rt, alloc, text);
     let book = Book::empty(alloc);
-    assert!(rt; sort_of(&set, &book).is_ok());
     all_rows(rt, &mut Plan::make(alloc, &set, &book)?, rows);
     Ok(())
 }
@@ -311,8 +265,10 @@ const REST: &[Row<'static>] = &[
 fn items_of_windows_come_in_one_go_by_tokens_and_from_both_ends(
     rt: HostRuntime,
 ) -> Result<(), Fail> {
-    let alloc = rt.alloc();
-    walk_set(&rt, alloc, without_two(alloc, span(FIRST, LAST)?)?, PIECES)?;
-    walk_set(&rt, alloc, all_but_two(alloc)?, REST)?;
-    Ok(())
+    const SPAN_WITHOUT_TWO: &str = "\
+span(start 1970-01-01T00:00:00, end 1970-01-01T00:00:40) \
+- {1970-01-01T00:00:10, 1970-01-01T00:00:20}";
+    const ALL_BUT_TWO: &str = "!{1970-01-01T00:00:10, 1970-01-01T00:00:20}";
+    walk_set(&rt, rt.alloc(), SPAN_WITHOUT_TWO, PIECES)?;
+    walk_set(&rt, rt.alloc(), ALL_BUT_TWO, REST)
 }

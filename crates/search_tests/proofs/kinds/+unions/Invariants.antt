@@ -1,4 +1,4 @@
-use Rattle.expr_tree.proofs.tests.+unions.Given as goal
+use Rattle.search_tests.proofs.kinds.+unions.Given as goal
 
 abbrev pub decreases-unions : goal.decreases-unions
 decreases-unions l = l.levels

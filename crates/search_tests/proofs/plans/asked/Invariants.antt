@@ -1,4 +1,4 @@
-use Rattle.plan_core.proofs.tests.asked.Given as goal
+use Rattle.search_tests.proofs.plans.asked.Given as goal
 
 abbrev pub ghosts-counted : goal.ghosts-counted
 ghosts-counted a = record { name = a.blank.name; parts = a.blank.parts }

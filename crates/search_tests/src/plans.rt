@@ -1,13 +1,11 @@
-ghost use Rattle.std.specs.Prelude.{◌≡◌, ◌<◌, IfOk};
-ghost use Rattle.moment_core.specs.Line.{IsCalendarMoment};
-ghost use Rattle.expr_tree.specs.Tree.{tree_of};
-ghost use Rattle.expr_tree.specs.WellFormed.{IsWellFormed};
+//! Tests of plan_core.
 
-use crate::Plan;
-use expr_tree::{Expr, Stamps, sort_of};
-use moment_core::{Dir, Moment, Pos, Stamp, Steps, Window};
+ghost use Rattle.std.specs.Prelude.{◌≡◌, ◌<◌};
+
+use crate::given::set_of;
+use moment_core::{Dir, Pos, Steps, Window};
+use plan_core::Plan;
 use span_core::{Answer, Test};
-use std::alloc::{AllocError, Global};
 use std::marker::Brand;
 use std::sync::ledger::{Blank, Ledger};
 use std::test::Fail;
@@ -18,18 +16,6 @@ const NEVER: Window = Window {
     lo: Pos(0),
     hi: Pos(2),
 };
-
-/// The set of one moment.
-fn only(alloc: Global, moment: Moment) -> Result<Expr, AllocError>
-    requires { IsCalendarMoment moment.0 }
-    ensures { IfOk result (λ e. IsWellFormed (tree_of e)) }
-{
-    let stamp = Stamp {
-        moment,
-        absolute: false,
-    };
-    Ok(Expr::List(Stamps::of(Vec::from_slice(alloc, &[stamp])?)))
-}
 
 /// What a plan tells of the position 2, and the nearest change past it.
 fn counted<L: Ledger>(plan: &mut Plan, dir: Dir, blank: Blank) -> (Test, Answer)
@@ -49,13 +35,9 @@ fn asked(plan: &mut Plan, dir: Dir) -> (Test, Answer) {
 
 #[test]
 fn a_plan_answers_both_ways(rt: HostRuntime) -> Result<(), Fail> {
-    let alloc = rt.alloc();
-    let set = only(alloc, Moment(3))?;
-    let book = Book::empty(alloc);
-    assert!(&rt; sort_of(&set, &book).is_ok());
-    let Ok(mut plan) = Plan::make(alloc, &set, &book) else {
-        panic!(&rt; "no plan");
-    };
+    let set = set_of(&rt, rt.alloc(), "{1970-01-01T00:00:03}");
+    let book = Book::empty(rt.alloc());
+    let mut plan = Plan::make(rt.alloc(), &set, &book)?;
     let fore = asked(&mut plan, Dir::Fore);
     assert_eq!(&rt; fore, (Test::Out, Answer::At(Pos(6))));
     let back = asked(&mut plan, Dir::Back);

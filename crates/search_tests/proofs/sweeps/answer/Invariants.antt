@@ -1,4 +1,4 @@
-use Rattle.cert_audit.proofs.tests.test.Given as goal
+use Rattle.search_tests.proofs.sweeps.answer.Given as goal
 
 abbrev pub ghosts-search : goal.ghosts-search
 ghosts-search g a = record { name = a.blank.name; parts = a.blank.parts }

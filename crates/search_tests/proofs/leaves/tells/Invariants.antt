@@ -1,4 +1,4 @@
-use Rattle.lowered_tree.proofs.tests.tells.Given as goal
+use Rattle.search_tests.proofs.leaves.tells.Given as goal
 
 abbrev pub ghosts-asked : goal.ghosts-asked
 ghosts-asked g a = record { name = a.blank.name; parts = a.blank.parts }

@@ -1,15 +1,14 @@
-ghost use Rattle.std.specs.Prelude.{◌≡◌, ◌<◌, IfOk, IfSome};
-ghost use Rattle.moment_core.specs.Line.{IsCalendarMoment};
-ghost use Rattle.expr_tree.specs.Tree.{tree_of};
-ghost use Rattle.expr_tree.specs.WellFormed.{IsWellFormed};
+//! Tests of query_core.
 
-use crate::{closest, contains, current, next, previous};
-use cert_audit::PlanFault;
-use expr_tree::{Expr, Stamps, sort_of};
-use moment_core::{Clock, HIGH, LOW, Moment, Pos, Stamp, Steps, Window, in_range};
+ghost use Rattle.std.specs.Prelude.{◌≡◌, ◌<◌};
+ghost use Rattle.moment_core.specs.Line.{IsCalendarMoment};
+
+use crate::given::set_of;
+use moment_core::{HIGH, LOW, Moment, Pos, Steps, Window, in_range};
 use plan_core::Plan;
-use span_core::{Bound, Near, Run, Span, Test};
-use std::alloc::{AllocError, Global};
+use query_core::{closest, contains, current, next, previous};
+use span_core::{Bound, Near, Run, Test};
+use std::alloc::Global;
 use std::marker::Brand;
 use std::process::Abort;
 use std::sync::ledger::{Blank, Ledger};
@@ -55,12 +54,10 @@ fn asked(plan: &mut Plan, query: Query, at: Moment) -> Near
     ask::<Brand>(plan, query, at, Blank::new(1))
 }
 
-/// The set gives each answer.
-fn gives(rt: &impl Abort, alloc: Global, set: Expr, rows: &[Row]) -> Result<(), PlanFault>
-    requires { IsWellFormed (tree_of set) }
-{
+/// The set of the text gives each answer.
+fn gives(rt: &impl Abort, alloc: Global, text: &str, rows: &[Row]) -> Result<(), Fail> {
+    let set = set_of(rt, alloc, text);
     let book = Book::empty(alloc);
-    assert!(rt; sort_of(&set, &book).is_ok());
     let mut plan = Plan::make(alloc, &set, &book)?;
     for Row(query, at, want) in rows {
         assert!(rt; in_range(*at));
@@ -90,20 +87,9 @@ const SECOND: Near = Near::Found(Run {
     last: Bound::Closed(LATER),
 });
 
-fn two(alloc: Global) -> Result<Expr, AllocError>
-    ensures { IfOk result (λ e. IsWellFormed (tree_of e)) }
-{
-    let floating = |moment: Moment| Stamp {
-        moment,
-        absolute: false,
-    };
-    let stamps = Vec::from_slice(alloc, &[floating(T), floating(LATER)])?;
-    Ok(Expr::List(Stamps::of(stamps)))
-}
-
 #[test]
 fn two_moments_and_a_tie(rt: HostRuntime) -> Result<(), Fail> {
-    let alloc = rt.alloc();
+    const TEXT: &str = "{2024-01-01T00:00:00, 2024-01-01T00:00:10}";
     let rows = [
         Row(Query::Next, T, SECOND),
         Row(Query::Next, LATER, never(3_408_134_421, 3_408_134_423)),
@@ -113,53 +99,29 @@ fn two_moments_and_a_tie(rt: HostRuntime) -> Result<(), Fail> {
         Row(Query::Closest, Moment(1_704_067_205), FIRST),
         Row(Query::Closest, Moment(1_704_067_206), SECOND),
     ];
-    gives(&rt, alloc, two(alloc)?, &rows)?;
-    Ok(())
-}
-
-/// All but the two moments.
-fn others(alloc: Global) -> Result<Expr, AllocError>
-    ensures { IfOk result (λ e. IsWellFormed (tree_of e)) }
-{
-    Ok(Expr::Not(Box::new(alloc, two(alloc)?)?))
+    gives(&rt, rt.alloc(), TEXT, &rows)
 }
 
 #[test]
 fn runs_without_a_bound(rt: HostRuntime) -> Result<(), Fail> {
-    let alloc = rt.alloc();
+    const TEXT: &str = "!{2024-01-01T00:00:00, 2024-01-01T00:00:10}";
     let rows = [
         Row(Query::Next, LATER, found(Bound::Open(LATER), Bound::Inf)),
         Row(Query::Previous, T, found(Bound::Inf, Bound::Open(T))),
         Row(Query::Current, Moment(0), found(Bound::Inf, Bound::Open(T))),
         Row(Query::Closest, T, found(Bound::Inf, Bound::Open(T))),
     ];
-    gives(&rt, alloc, others(alloc)?, &rows)?;
-    Ok(())
-}
-
-/// The first second of the calendar range.
-fn first_second() -> Option<Expr>
-    ensures { IfSome result (λ e. IsWellFormed (tree_of e)) }
-{
-    let low = Bound::Closed(Moment(LOW));
-    let high = Bound::Closed(Moment(LOW + 1));
-    match Span::new(low, high) {
-        Ok(span) => Some(Expr::Span(span, Clock::Floating, Clock::Floating)),
-        Err(_) => None,
-    }
+    gives(&rt, rt.alloc(), TEXT, &rows)
 }
 
 #[test]
 fn the_edge_of_the_range(rt: HostRuntime) -> Result<(), Fail> {
-    let Some(set) = first_second() else {
-        panic!(&rt; "no span");
-    };
+    const TEXT: &str = "span(start -9900-01-01T00:00:00, end -9900-01-01T00:00:01)";
     let whole = found(Bound::Edge, Bound::Closed(Moment(LOW + 1)));
     let rows = [
         Row(Query::Previous, Moment(LOW + 3), whole),
         Row(Query::Previous, Moment(LOW + 1), Near::Edge),
         Row(Query::Closest, Moment(HIGH), whole),
     ];
-    gives(&rt, rt.alloc(), set, &rows)?;
-    Ok(())
+    gives(&rt, rt.alloc(), TEXT, &rows)
 }

@@ -1,4 +1,4 @@
-use Rattle.query_core.proofs.tests.asked.Given as goal
+use Rattle.search_tests.proofs.neighbours.asked.Given as goal
 
 abbrev pub ghosts-ask : goal.ghosts-ask
 ghosts-ask a = record { name = a.blank.name; parts = a.blank.parts }
