@@ -29,27 +29,20 @@ struct Row<'a> {
 }
 
 /// The row of a line `WORDS < TEXT -> STATUS LINE / LINE ..`, which has no status where it is 0.
-fn row_of<'a>(rt: &impl Abort, line: &'a str) -> Row<'a> {
-    let Some((words, rest)) = line.split_once(" < ") else {
-        panic!(rt; "no text in {line}");
-    };
-    let Some((text, answer)) = rest.split_once(" -> ") else {
-        panic!(rt; "no answer in {line}");
-    };
+fn row_of(line: &str) -> Option<Row> {
+    let (words, rest) = line.split_once(" < ")?;
+    let (text, answer) = rest.split_once(" -> ")?;
     let (first, behind) = answer.split_once(" ").unwrap_or((answer, ""));
-    let (status, lines) = match first {
-        "2" => (2, behind),
-        "3" => (3, behind),
-        "4" => (4, behind),
-        "5" => (5, behind),
-        _ => (0, answer),
+    let (status, lines) = match first.parse::<u8>() {
+        Ok(status) => (status, behind),
+        Err(_) => (0, answer),
     };
-    Row {
+    Some(Row {
         words,
         text,
         status,
         lines,
-    }
+    })
 }
 
 fn words_of(alloc: Global, line: &str) -> Result<Vec<String>, AllocError> {
@@ -118,86 +111,109 @@ fn answer_with_faults(
     run_with_faults::<Brand>(alloc, words, source, sink, Blank::new(1))
 }
 
-/// The row's query ends with its status and writes its lines.
-fn is_answered(rt: &impl Abort, alloc: Global, row: Row) -> Result<(), AllocError> {
+/// The status and what was written are those of the row.
+fn are_those_of(
+    rt: &impl Abort,
+    alloc: Global,
+    row: Row,
+    status: u8,
+    taken: &[u8],
+) -> Result<(), AllocError> {
     let Row { words, text, .. } = row;
-    let mut source = SureSource::new(Vec::from_slice(alloc, text.as_bytes())?);
-    let mut sink = SureSink::new(alloc, 256)?;
-    let status = answer(alloc, &words_of(alloc, words)?, &mut source, &mut sink);
     let written = written_of(alloc, row.lines)?;
     assert_eq!(rt; status, row.status, "{text} at {words}");
-    assert!(rt; sink.taken() == written.as_bytes(), "{text} at {words}");
+    assert!(rt; taken == written.as_bytes(), "{text} at {words}");
     Ok(())
+}
+
+/// The row's query ends with its status and writes its lines.
+fn is_answered(rt: &impl Abort, alloc: Global, row: Row) -> Result<(), AllocError> {
+    let words = words_of(alloc, row.words)?;
+    let mut source = SureSource::new(Vec::from_slice(alloc, row.text.as_bytes())?);
+    let mut sink = SureSink::new(alloc, 256)?;
+    let status = answer(alloc, &words, &mut source, &mut sink);
+    are_those_of(rt, alloc, row, status, sink.taken())
 }
 
 /// Each row is answered.
 fn are_answered(rt: &impl Abort, alloc: Global, rows: &str) -> Result<(), AllocError> {
     assert!(rt; !rows.is_empty(), "no rows");
     for line in rows.lines() {
-        is_answered(rt, alloc, row_of(rt, line))?;
+        let Some(row) = row_of(line) else {
+            panic!(rt; "no row: {line}");
+        };
+        is_answered(rt, alloc, row)?;
     }
     Ok(())
 }
 
-/// The read or the write that fails, counted from 0.
+/// The read and the write that fail, counted from 0.
 #[derive(Clone, Copy)]
-enum Fault {
-    Read(u64),
-    Write(u64),
+struct Faults {
+    read: Option<u64>,
+    write: Option<u64>,
 }
 
 /// The fault that a line begins with, as `read N: ` or `write N: `, and the row behind it.
-fn fault_of<'a>(rt: &impl Abort, line: &'a str) -> (Fault, &'a str) {
-    let Some((fault, row)) = line.split_once(": ") else {
-        panic!(rt; "no fault in {line}");
+fn faulty_row_of(line: &str) -> Option<(Faults, Row)> {
+    let (fault, row) = line.split_once(": ")?;
+    let (step, place) = fault.split_once(" ")?;
+    let place = Some(place.parse::<u64>().ok()?);
+    let faults = match step {
+        "read" => Faults {
+            read: place,
+            write: None,
+        },
+        "write" => Faults {
+            read: None,
+            write: place,
+        },
+        _ => return None,
     };
-    let Some((step, place)) = fault.split_once(" ") else {
-        panic!(rt; "no place in {line}");
-    };
-    let Ok(place) = place.parse::<u64>() else {
-        panic!(rt; "no number in {line}");
-    };
-    match step {
-        "read" => (Fault::Read(place), row),
-        "write" => (Fault::Write(place), row),
-        _ => panic!(rt; "no step in {line}"),
-    }
+    Some((faults, row_of(row)?))
 }
 
-/// A source of the text, and a sink, with the fault.
-fn faulty(alloc: Global, text: Vec<u8>, fault: Fault) -> Result<(MemSource, MemSink), AllocError> {
-    let mut reads = Vec::new(alloc);
-    let mut writes = Vec::new(alloc);
-    match fault {
-        Fault::Read(place) => reads.push(place)?,
-        Fault::Write(place) => writes.push(place)?,
+fn places(alloc: Global, place: Option<u64>) -> Result<Vec<u64>, AllocError> {
+    let mut places = Vec::new(alloc);
+    if let Some(place) = place {
+        places.push(place)?;
     }
-    let sink = MemSink::new(alloc, 64, writes)?;
-    Ok((MemSource::new(text, reads), sink))
+    Ok(places)
 }
 
-/// With the fault the row's query ends with its status and writes its lines.
-fn is_answered_in_spite_of(
+/// The status that the words over the source end with.
+fn status_of(
+    alloc: Global,
+    words: &str,
+    source: &mut MemSource,
+    sink: &mut MemSink,
+) -> Result<u8, AllocError> {
+    let words = words_of(alloc, words)?;
+    Ok(answer_with_faults(alloc, &words, source, sink))
+}
+
+/// With these faults the row's query ends with its status and writes its lines.
+fn is_answered_with_faults(
     rt: &impl Abort,
     alloc: Global,
-    fault: Fault,
+    faults: Faults,
     row: Row,
 ) -> Result<(), AllocError> {
-    let Row { words, text, .. } = row;
-    let (mut source, mut sink) = faulty(alloc, Vec::from_slice(alloc, text.as_bytes())?, fault)?;
-    let status = answer_with_faults(alloc, &words_of(alloc, words)?, &mut source, &mut sink);
-    let written = written_of(alloc, row.lines)?;
-    assert_eq!(rt; status, row.status, "{text} at {words}");
-    assert!(rt; sink.taken() == written.as_bytes(), "{text} at {words}");
-    Ok(())
+    let text = Vec::from_slice(alloc, row.text.as_bytes())?;
+    let mut source = MemSource::new(text, places(alloc, faults.read)?);
+    let mut sink = MemSink::new(alloc, 64, places(alloc, faults.write)?)?;
+    let status = status_of(alloc, row.words, &mut source, &mut sink)?;
+    are_those_of(rt, alloc, row, status, sink.taken())
 }
 
 /// Each row is answered with its fault.
 fn are_answered_with_faults(rt: &impl Abort, alloc: Global, rows: &str) -> Result<(), AllocError> {
     assert!(rt; !rows.is_empty(), "no rows");
     for line in rows.lines() {
-        let (fault, row) = fault_of(rt, line);
-        is_answered_in_spite_of(rt, alloc, fault, row_of(rt, row))?;
+        let Some((faults, row)) = faulty_row_of(line) else {
+            panic!(rt; "no row: {line}");
+        };
+        is_answered_with_faults(rt, alloc, faults, row)?;
     }
     Ok(())
 }
@@ -384,8 +400,9 @@ fn leaves(
 ) -> Result<(), AllocError> {
     let mut text = vec![in alloc; b' '; spaces]?;
     text.extend_from_slice(b"empty()")?;
-    let (mut source, mut sink) = faulty(alloc, text, Fault::Read(failed_read))?;
-    let answered = answer_with_faults(alloc, &words_of(alloc, "show")?, &mut source, &mut sink);
+    let mut source = MemSource::new(text, places(alloc, Some(failed_read))?);
+    let mut sink = MemSink::new(alloc, 64, Vec::new(alloc))?;
+    let answered = status_of(alloc, "show", &mut source, &mut sink)?;
     assert_eq!(rt; answered, status, "after {spaces} spaces");
     let got = if left == 0 {
         Got::End
