@@ -389,47 +389,34 @@ write 3: walk from=2024-01-01T00:00:00 to=2024-01-03T00:00:00 < daily(hours=9) -
     Ok(())
 }
 
-/// `show` over so many spaces and a set, with this read failed, ends with this status; where all is
-/// read, one read more would fail, else what wasn't read is still there.
-fn leaves(
-    rt: &impl Abort,
-    alloc: Global,
-    (spaces, failed_read): (usize, u64),
-    status: u8,
-    left: usize,
-) -> Result<(), AllocError> {
+/// `show` over so many spaces and a set, with this read failed: its status, and what one read more
+/// gives.
+fn one_read_more(alloc: Global, spaces: usize, failed_read: u64) -> Result<(u8, Got), AllocError> {
     let mut text = vec![in alloc; b' '; spaces]?;
     text.extend_from_slice(b"empty()")?;
     let mut source = MemSource::new(text, places(alloc, Some(failed_read))?);
     let mut sink = MemSink::new(alloc, 64, Vec::new(alloc))?;
-    let answered = status_of(alloc, "show", &mut source, &mut sink)?;
-    assert_eq!(rt; answered, status, "after {spaces} spaces");
-    let got = if left == 0 {
-        Got::End
-    } else {
-        Got::Bytes(left)
-    };
-    if answered == 4 || left != 0 {
-        let mut buf = [0u8; 1024];
-        assert_eq!(rt; source.read(&mut buf), got, "after {spaces} spaces");
-    }
-    Ok(())
+    let status = status_of(alloc, "show", &mut source, &mut sink)?;
+    let mut buf = [0u8; 1024];
+    Ok((status, source.read(&mut buf)))
 }
 
-// A read takes 4,096 bytes at most.
+// A read takes 4,096 bytes at most. Where all is read, one read more is the one that fails.
 #[test]
 fn nothing_is_read_after_the_end_or_a_failed_read(rt: HostRuntime) -> Result<(), Fail> {
-    const ROWS: &[(usize, u64, u8, usize)] = &[
-        (0, 2, 0, 0),
-        (8_185, 3, 0, 0),
-        (65_531, 99, 2, 1),
-        (0, 0, 4, 7),
-        (0, 1, 4, 0),
-        (4_993, 1, 4, 904),
+    const ROWS: &[(usize, u64, u8, Got)] = &[
+        (0, 2, 0, Got::Failed),
+        (8_185, 3, 0, Got::Failed),
+        (65_531, 99, 2, Got::Bytes(1)),
+        (0, 0, 4, Got::Bytes(7)),
+        (0, 1, 4, Got::End),
+        (4_993, 1, 4, Got::Bytes(904)),
     ];
     let alloc = rt.alloc();
-    for (spaces, failed_read, status, left) in ROWS {
-        leaves(&rt, alloc, (*spaces, *failed_read), *status, *left)?;
+    for (spaces, failed_read, status, got) in ROWS {
+        let (answered, more) = one_read_more(alloc, *spaces, *failed_read)?;
+        assert_eq!(rt; answered, *status, "after {spaces} spaces");
+        assert_eq!(rt; more, *got, "after {spaces} spaces");
     }
     Ok(())
 }
