@@ -8,10 +8,15 @@ mod laws;
 mod query;
 mod reading;
 
+use messages::{
+    CUT_OFF, Ended, KeptReader, KeptSink, NO_MEMORY, UNREADABLE_WORDS, WAITING, message, unread,
+};
 use moment_core::Steps;
 use outside_core::{StdSink, StdSource};
 use query_reply::{put, refuse};
+use query_words::read_words;
 use report_text::Refusal;
+use std::io::{ErrorKind, IsTerminal};
 use std::marker::Brand;
 use std::process::ExitCode;
 use std::sync::ledger::{Blank, Ledger};
@@ -27,28 +32,70 @@ fn words_of(rt: &HostRuntime) -> io::Result<Vec<String>> {
     Ok(words)
 }
 
+/// Says a message on standard error, where that takes it.
+fn say(rt: &HostRuntime, message: &str) {
+    let _ = rt.eprintln(message);
+}
+
+/// Says why a query ended with this status, where that isn't 0.
+fn explain(
+    rt: &HostRuntime,
+    book: &Book,
+    ended: &Ended<'_>,
+    failure: Option<ErrorKind>,
+    status: u8,
+) {
+    match status {
+        4 => say(rt, unread(failure)),
+        5 => say(rt, CUT_OFF),
+        6 => say(rt, NO_MEMORY),
+        _ => {
+            if let Ok(Some(text)) = message(rt.alloc(), book, ended, status) {
+                say(rt, text.as_str());
+            }
+        }
+    }
+}
+
 /// Answers the query over the standard streams, or writes the help or the version. Words that are
 /// no text are refused as a first word that is no command is, and without memory for them the
-/// status is 6.
+/// status is 6. What is said on standard error is no part of the answer.
 fn answer<L: Ledger>(rt: &HostRuntime, blank: Blank) -> u8
     requires name { blank.name ≡ L.name }
     requires parts { blank.parts ≡ L.parts }
     requires some { 0 < blank.parts }
 {
     let alloc = rt.alloc();
-    let mut source = StdSource::new(rt.stdin());
-    let mut sink = StdSink::new(rt.stdout());
+    let mut sink = KeptSink::new(StdSink::new(rt.stdout()));
     let words = match words_of(rt) {
         Ok(words) => words,
-        Err(e) if e.kind() == io::ErrorKind::OutOfMemory => return 6,
-        Err(_) => return refuse(Refusal::Words(0), &mut sink),
+        Err(e) if e.kind() == io::ErrorKind::OutOfMemory => {
+            say(rt, NO_MEMORY);
+            return 6;
+        }
+        Err(_) => {
+            say(rt, UNREADABLE_WORDS);
+            return refuse(Refusal::Words(0), &mut sink);
+        }
     };
     if let Some(text) = help::text_of(&words) {
         return put(&mut sink, text.as_bytes(), 0);
     }
+    if rt.stdin().is_terminal() && read_words(&words).is_ok() {
+        say(rt, WAITING);
+    }
     let book = Book::empty(alloc);
     let mut steps = Steps::<L>::new(blank);
-    query::run(alloc, &words, &book, &mut source, &mut sink, &mut steps)
+    let mut reader = KeptReader::new(alloc, rt.stdin());
+    let mut source = StdSource::new(&mut reader);
+    let status = query::run(alloc, &words, &book, &mut source, &mut sink, &mut steps);
+    let ended = Ended {
+        words: &words,
+        text: reader.kept(),
+        line: sink.line(),
+    };
+    explain(rt, &book, &ended, reader.failure(), status);
+    status
 }
 
 fn main(rt: HostRuntime) -> ExitCode {
