@@ -11,5 +11,5 @@ complete -c towhipae -n __fish_is_first_arg -a show -d 'the printed form of the 
 complete -c towhipae -n __fish_is_first_arg -l help -d 'what the program does'
 complete -c towhipae -n __fish_is_first_arg -l version -d 'its version'
 complete -c towhipae -n '__fish_seen_subcommand_from next previous current closest contains' -a 'at= budget='
-complete -c towhipae -n '__fish_seen_subcommand_from walk' -a 'from= to= dir= limit= budget='
+complete -c towhipae -n '__fish_seen_subcommand_from walk' -a 'from= to= dir=fore dir=back limit= budget='
 complete -c towhipae -n '__fish_seen_subcommand_from resume' -a 'token= limit= budget='
