@@ -3,12 +3,13 @@
 
 ghost use Rattle.std.specs.Prelude.{◌≡◌, ◌<◌};
 
+use anyhow::{Result, bail};
 use expr_text::read_sorted;
 use moment_core::{Moment, Steps};
 use plan_core::Plan;
 use query_core::next;
 use report_text::line_near;
-use std::io::{self, Write};
+use std::io::Write;
 use std::marker::Brand;
 use std::sync::ledger::{Blank, Ledger};
 use stored_pair::Book;
@@ -20,25 +21,29 @@ const TEXT: &str = "monthly(days=13) & weekly(days=5)";
 const AT: Moment = Moment(1_704_067_200);
 
 /// Reads the text, makes its set ready, finds the next run after the moment and writes its line.
-fn answer<L: Ledger>(rt: &HostRuntime, blank: Blank) -> io::Result<()>
+/// Where one of these fails, the error says which.
+fn answer<L: Ledger>(rt: &HostRuntime, blank: Blank) -> Result<()>
     requires name { blank.name ≡ L.name }
     requires parts { blank.parts ≡ L.parts }
     requires some { 0 < blank.parts }
 {
     let alloc = rt.alloc();
     let book = Book::empty(alloc);
-    let Ok(program) = read_sorted(alloc, TEXT.as_bytes(), &book) else {
-        return Ok(());
+    let program = match read_sorted(alloc, TEXT.as_bytes(), &book) {
+        Ok(program) => program,
+        Err(fault) => bail!("the text isn't read: {fault}"),
     };
-    let Ok(mut plan) = Plan::make(alloc, &program.first.set, &book) else {
-        return Ok(());
+    let mut plan = match Plan::make(alloc, &program.first.set, &book) {
+        Ok(plan) => plan,
+        Err(fault) => bail!("the set isn't made ready: {fault:?}"),
     };
     let mut steps = Steps::<L>::new(blank);
     let near = next(&mut plan, AT, 1_000_000, &mut steps);
     let line = line_near(near, program.first.sort.kind, program.first.sort.clock);
-    rt.stdout().write_all(line.bytes())
+    rt.stdout().write_all(line.bytes())?;
+    Ok(())
 }
 
-fn main(rt: HostRuntime) -> io::Result<()> {
+fn main(rt: HostRuntime) -> Result<()> {
     answer::<Brand>(&rt, Blank::new(1))
 }
