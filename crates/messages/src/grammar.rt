@@ -365,6 +365,14 @@ impl Reading {
     }
 }
 
+/// What may be meant by a key that stands again.
+fn list_advice(token: Option<&Token<'_>>) -> &'static str {
+    match token {
+        Some(Token::Word(Word::Interval | Word::WeekStart | Word::Start, _)) => "",
+        _ => "; its numbers are one list, with commas",
+    }
+}
+
 /// What is wrong at the token of this number.
 fn halted(
     alloc: Global,
@@ -380,9 +388,8 @@ fn halted(
             format!(in alloc; "brackets and signs nest at most {NESTING_LIMIT} deep")?
         }
         Halt::Repeated => {
-            format!(in alloc;
-                "{name} stands in this rule before; its numbers are one list, with commas"
-            )?
+            let advice = list_advice(tokens.found.get(index));
+            format!(in alloc; "{name} stands in this rule before{advice}")?
         }
         Halt::Unexpected => {
             let awaited = reading.awaited();

@@ -116,7 +116,9 @@ fn keys_taken(alloc: Global, command: Command, name: &str) -> Result<String, All
 /// What is wrong where no word is bad and one is missing.
 fn missing(alloc: Global, words: &[String]) -> Result<String, AllocError> {
     let Some(first) = words.first() else {
-        return format!(in alloc; "towhipae: a command is missing: {COMMANDS} or show");
+        return format!(in alloc;
+            "towhipae: a command is missing: {COMMANDS} or show; --help tells of them"
+        );
     };
     let name = first.as_str();
     if let Some(command) = Command::named(name) {
@@ -134,9 +136,11 @@ fn missing(alloc: Global, words: &[String]) -> Result<String, AllocError> {
 /// What is wrong with a first word that is no command.
 fn no_command(alloc: Global, word: &str) -> Result<String, AllocError> {
     if word == "--help" || word == "--version" {
-        return at_word(alloc, 0, word, "no word stands behind it");
+        return at_word(alloc, 0, word, "no other word goes with it");
     }
-    let what = format!(in alloc; "no such command; there are {COMMANDS} and show")?;
+    let what = format!(in alloc;
+        "no such command; there are {COMMANDS} and show, of which --help tells"
+    )?;
     at_word(alloc, 0, word, what.as_str())
 }
 
